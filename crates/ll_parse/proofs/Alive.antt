@@ -1,5 +1,5 @@
 -- Each stack that a run keeps stands for some text.
-use Rattle.std.proofs.Common.{◌≡◌, ◌≢◌, ℕ, suc, zero, ◌+◌, ◌<◌, ◌≤◌, Bool, true, false, cond, ◌&&◌, ◌⊎◌, inl, inr, List, [], ◌∷◌, ◌++◌, length, refl, sym, ◌∙◌, ap, subst, append_assoc, arith}
+use Rattle.std.proofs.Common.{ℕ, suc, zero, ◌<◌, ◌≤◌, inl, inr, List, [], ◌∷◌, ◌++◌, arith}
 use Rattle.ll_parse.specs.Conditions.{CanEnd, CanEndBelow, AllCanEnd, AllCanEndBelow, tail_of, Completes, HasText}
 use Rattle.ll_parse.specs.Grammar.{Grammar}
 use Rattle.ll_parse.specs.Grammar.Derives.{done, token, production}

@@ -1,5 +1,5 @@
 -- How a run ends.
-use Rattle.std.proofs.Common.{◌≡◌, ◌≢◌, ℕ, suc, zero, ◌+◌, ◌-◌, ◌<◌, ◌≤◌, Bool, true, false, List, [], ◌∷◌, ◌++◌, length, take, drop, get_or, reverse, refl, sym, ◌∙◌, ap, subst, append_assoc, append-nil, arith}
+use Rattle.std.proofs.Common.{◌≡◌, ◌≢◌, ℕ, ◌+◌, ◌<◌, ◌≤◌, true, List, [], ◌∷◌, ◌++◌, length, take, drop, get_or, refl, sym, ◌∙◌, ap, subst, arith}
 use Rattle.std.proofs.lemmas.List.{take-append-drop, take_more, take_all}
 use Rattle.std.proofs.Math.Seq.{take-length}
 use Rattle.ll_parse.specs.Conditions.{IsLl}
@@ -8,8 +8,7 @@ use Rattle.ll_parse.specs.Machine.{HasRead, IsKept, MatchTop}
 use Rattle.ll_parse.specs.Tables.{Lists, grammar_of, cell_of, follow_of, witness_of, rank_of}
 use Rattle.ll_parse.proofs.Alive.{stands}
 use Rattle.ll_parse.proofs.Theory.{read_token, read_stuck, read_ends, read_all, read_only, token_of, no_end, empty_of}
-use Rattle.ll_parse.specs.declared.machine.Top.{Top}
-use Rattle.ll_parse.specs.declared.machine.Top.TheVariants.{Token, End, Stuck}
+use Rattle.ll_parse.specs.declared.machine.Top.TheVariants.{Token, End}
 
 module _ (t : Lists) (ll : IsLl t) where
   begins : (seen productions stack : List ℕ) → HasRead (grammar_of t) seen productions stack → IsKept t stack → Begins (grammar_of t) seen

@@ -1,8 +1,7 @@
 -- A table that passes the test is LL(1).
-use Rattle.std.proofs.Common.{◌≡◌, ◌≢◌, ℕ, suc, zero, ◌+◌, ◌-◌, ◌<◌, ◌≤◌, Bool, true, false, cond, ◌&&◌, ◌||◌, ◌⊎◌, inl, inr, List, [], ◌∷◌, ◌++◌, length, get_or, nat_lt, refl, sym, ◌∙◌, ap, subst, arith}
+use Rattle.std.proofs.Common.{◌≡◌, ◌≢◌, ℕ, suc, zero, ◌+◌, ◌-◌, ◌<◌, ◌≤◌, Bool, true, false, cond, ◌&&◌, ◌||◌, ◌⊎◌, inl, inr, List, [], ◌∷◌, length, get_or, nat_lt, refl, sym, ◌∙◌, ap, subst, arith}
 use Rattle.std.proofs.Math.Dec.{leb, ltb, eqb}
 use Rattle.std.proofs.lemmas.Bool.{and_parts, ltb-true, eqb-true, eq-eqb, lt-ltb, ltb-false, leb-true}
-use Rattle.std.proofs.lemmas.Bool.Decides.{eqb_tells}
 use Rattle.ll_parse.specs.Conditions.{CanBegin, ExpectsAfter, IsBodyLinked, IsPicked, Decides, IsUnbarred, IsFor, CanEnd, CanEndBelow, AllCanEnd, AllCanEndBelow, tail_of, Completes, steps_of, all_nullable, IsLinear, IsLl}
 use Rattle.ll_parse.specs.Tables.{Lists, grammar_of, cell_of, follow_of, witness_of, rank_of, cost_of, nullable_of}
 use Rattle.ll_parse.specs.Test.{all_below, only, row_of, followers, first_only, is_picked, has_followers, is_linked, is_none_of, has_witness, can_end, all_can_end, tail_can_end, all_can_end_below, body_of, pays, is_production_fit, is_body_inside, is_row_fit, are_rows_fit, are_ends_fit, is_ll}

@@ -7,3 +7,4 @@ pub mod Check
 pub mod Fits
 pub mod Use
 pub mod PlaceSteps
+pub mod ExampleTables

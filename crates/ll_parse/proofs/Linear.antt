@@ -1,5 +1,5 @@
 -- The work is linear: a measure of each stack falls with each production, and the tokens pay for the others.
-use Rattle.std.proofs.Common.{◌≡◌, ◌≢◌, ℕ, suc, zero, ◌+◌, ◌*◌, ◌-◌, ◌<◌, ◌≤◌, Bool, true, false, cond, List, [], ◌∷◌, ◌++◌, length, refl, sym, ◌∙◌, ap, subst, arith}
+use Rattle.std.proofs.Common.{◌≡◌, ℕ, suc, ◌+◌, ◌*◌, ◌<◌, ◌≤◌, Bool, true, false, cond, List, [], ◌∷◌, ◌++◌, length, refl, sym, ◌∙◌, ap, subst, arith}
 use Rattle.ll_parse.specs.Conditions.{steps_of, all_nullable, costs_of, tokens_of, IsLinear}
 use Rattle.ll_parse.specs.Grammar.{Grammar, Derives}
 use Rattle.ll_parse.specs.Grammar.Derives.{done, token, production}

@@ -1,8 +1,8 @@
 -- The steps of placing the productions.
-use Rattle.std.proofs.Common.{◌≡◌, ◌≢◌, ℕ, suc, zero, ◌+◌, ◌-◌, ◌<◌, ◌≤◌, ◌^◌, Bool, true, false, cond, List, [], ◌∷◌, ◌++◌, length, reverse, drop, get_or, drop-cons, nat_lt, refl, sym, ◌∙◌, ap, subst, append_assoc, append-nil, arith}
-use Rattle.std.proofs.lemmas.Bool.{lt-ltb, le-ltb, ltb-true, ltb-false}
+use Rattle.std.proofs.Common.{◌≡◌, ℕ, suc, zero, ◌+◌, ◌<◌, ◌≤◌, Bool, true, false, cond, List, [], ◌∷◌, ◌++◌, length, reverse, drop, get_or, drop-cons, nat_lt, refl, sym, ◌∙◌, ap, subst, append_assoc, append-nil, arith}
+use Rattle.std.proofs.lemmas.Bool.{lt-ltb, le-ltb}
 use Rattle.ll_parse.specs.Conditions.{IsLl}
-use Rattle.ll_parse.specs.Grammar.{Grammar, next_kind, Derives, Parses}
+use Rattle.ll_parse.specs.Grammar.{Grammar, Derives, Parses}
 use Rattle.ll_parse.specs.Places.{place_of, below, placed}
 use Rattle.ll_parse.specs.Tables.{Lists, grammar_of}
 use Rattle.ll_parse.proofs.Steps.{popped, nothing}

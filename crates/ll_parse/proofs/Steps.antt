@@ -1,5 +1,5 @@
 -- The machine's steps, on the stack as the code keeps it.
-use Rattle.std.proofs.Common.{◌≡◌, ◌≢◌, ℕ, suc, zero, ◌+◌, ◌-◌, ◌<◌, ◌≤◌, Bool, true, false, List, [], ◌∷◌, ◌++◌, length, reverse, refl, sym, ◌∙◌, ap, subst, append_assoc, append-nil, arith}
+use Rattle.std.proofs.Common.{◌≡◌, ℕ, suc, ◌<◌, ◌≤◌, List, [], ◌∷◌, ◌++◌, length, reverse, refl, ◌∙◌, ap, append_assoc, arith}
 use Rattle.std.proofs.lemmas.List.{reverse-append, reverse-reverse}
 use Rattle.ll_parse.specs.Conditions.{AllCanEnd, tail_of, IsLl, steps_of}
 use Rattle.ll_parse.specs.Machine.{IsKept, Expands, MatchTop}
@@ -8,8 +8,7 @@ use Rattle.ll_parse.specs.Tables.{Lists, most_productions, grammar_of, cell_of, 
 use Rattle.ll_parse.proofs.Alive.{tail_production}
 use Rattle.ll_parse.proofs.Linear.{steps_fall, few_productions}
 use Rattle.ll_parse.proofs.Theory.{linked_production, leads_production, no_production}
-use Rattle.ll_parse.specs.declared.machine.Top.{Top}
-use Rattle.ll_parse.specs.declared.machine.Top.TheVariants.{Token, End, Stuck}
+use Rattle.ll_parse.specs.declared.machine.Top.TheVariants.{Token, Stuck}
 
 pub popped : (old new : List ℕ) (x : ℕ) → old ≡ new ++ x ∷ [] → reverse old ≡ x ∷ reverse new
 popped old new x e = ap reverse e ∙ reverse-append new (x ∷ [])

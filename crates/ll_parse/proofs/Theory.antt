@@ -1,4 +1,4 @@
-use Rattle.std.proofs.Common.{◌≡◌, ◌≢◌, ℕ, suc, zero, ◌+◌, ◌<◌, ◌≤◌, Bool, true, false, cond, ◌⊎◌, inl, inr, List, [], ◌∷◌, ◌++◌, length, refl, sym, ◌∙◌, ap, subst, append_assoc, append-nil, arith}
+use Rattle.std.proofs.Common.{◌≡◌, ◌≢◌, ℕ, suc, ◌<◌, ◌≤◌, Bool, true, inl, inr, List, [], ◌∷◌, ◌++◌, refl, sym, ◌∙◌, ap, subst, append_assoc, append-nil, arith}
 use Rattle.ll_parse.specs.Conditions.{Expects, IsLinked, ExpectsAfter, IsBodyLinked, IsPicked, Decides}
 use Rattle.ll_parse.specs.Grammar.{Grammar, next_kind, Derives, Parses, Begins}
 use Rattle.ll_parse.specs.Machine.{Leads, HasRead}

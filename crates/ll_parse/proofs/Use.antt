@@ -1,10 +1,10 @@
 -- For the crates above: to make and to take apart the derivations of a grammar.
-use Rattle.std.proofs.Common.{◌≡◌, ◌≢◌, ℕ, suc, zero, ◌+◌, ◌-◌, ◌<◌, ◌≤◌, Bool, true, false, cond, ◌⊎◌, inl, inr, List, [], ◌∷◌, ◌++◌, refl, sym, ◌∙◌, ap, subst, arith}
-use Rattle.std.proofs.Math.Dec.{ltb, eqb}
+use Rattle.std.proofs.Common.{◌≡◌, ◌≢◌, ℕ, suc, zero, ◌<◌, ◌≤◌, Bool, true, false, cond, ◌⊎◌, inl, inr, List, [], ◌∷◌, ◌++◌, refl, sym, ◌∙◌, ap, subst, arith}
+use Rattle.std.proofs.Math.Dec.{eqb}
 use Rattle.std.proofs.lemmas.Bool.{eq-eqb}
 use Rattle.std.proofs.lemmas.Bool.Decides.{eqb_tells}
 use Rattle.ll_parse.specs.Grammar.{Grammar, next_kind, Derives}
-use Rattle.ll_parse.specs.Grammar.Derives.{done, token, production}
+use Rattle.ll_parse.specs.Grammar.Derives.{token, production}
 
 -- the numbers below n that pass a test
 abbrev pub among : (ℕ → Bool) → ℕ → List ℕ

@@ -1,5 +1,5 @@
 -- When one token ahead tells the production, every stack can be completed, and the work is linear.
-use Rattle.std.specs.Prelude.{◌≡◌, ◌≢◌, ℕ, ◌+◌, ◌*◌, ◌<◌, ◌≤◌, ◌⊎◌, Bool, true, false, cond, List, [], ◌∷◌, ◌++◌, length, slice_index}
+use Rattle.std.specs.Prelude.{◌≡◌, ◌≢◌, ℕ, ◌+◌, ◌*◌, ◌<◌, ◌≤◌, ◌⊎◌, Bool, true, false, cond, List, [], ◌∷◌, length, slice_index}
 use Rattle.std.proofs.Common.{suc}
 use Rattle.ll_parse.specs.Grammar.{Grammar, next_kind, Derives}
 use Rattle.ll_parse.specs.Tables.{Lists, grammar_of, cell_of, follow_of, witness_of, rank_of, cost_of, nullable_of}

@@ -4,3 +4,4 @@ pub mod Conditions
 pub mod Test
 pub mod Machine
 pub mod Places
+pub mod Examples

@@ -6,6 +6,7 @@
 //! nothing to this crate.
 #![tactic(auto)]
 
+pub mod examples;
 mod machine;
 mod placing;
 mod table;

@@ -82,3 +82,53 @@ pub fn parse(
         Top::Stuck => Ok(Err(tokens.len())),
     }
 }
+
+#[cfg(test)]
+mod tests {
+    use super::*;
+    use crate::examples;
+    use std::process::Abort;
+    use std::test::Fail;
+
+    fn check(
+        rt: &(impl Abort + AllocGlobal),
+        table: &Table,
+        tokens: &[u8],
+        expected: Result<&[u16], usize>,
+    ) -> Result<(), Fail>
+        requires { IsLl (lists_of table.now) }
+    {
+        match (parse(rt.alloc(), table, tokens)?, expected) {
+            (Ok(found), Ok(wanted)) => assert_eq!(rt; found.as_slice(), wanted),
+            (Err(found), Err(wanted)) => assert_eq!(rt; found, wanted),
+            _ => assert!(rt; false, "{tokens:?}"),
+        }
+        Ok(())
+    }
+
+    #[test]
+    fn parentheses_are_read_or_refused_at_the_first_wrong_token(
+        rt: HostRuntime,
+    ) -> Result<(), Fail> {
+        let table = examples::nested();
+        check(&rt, &table, &[3], Ok(&[1]))?;
+        check(&rt, &table, &[1, 1, 3, 2, 2], Ok(&[0, 0, 1]))?;
+        check(&rt, &table, &[], Err(0))?;
+        check(&rt, &table, &[2], Err(0))?;
+        check(&rt, &table, &[1], Err(1))?;
+        check(&rt, &table, &[1, 3], Err(2))?;
+        check(&rt, &table, &[1, 3, 3], Err(2))?;
+        check(&rt, &table, &[1, 3, 2, 2], Err(3))?;
+        check(&rt, &table, &[1, 200], Err(1))?;
+        check(&rt, &table, &[3, 0], Err(1))
+    }
+
+    #[test]
+    fn an_else_belongs_to_the_nearest_if(rt: HostRuntime) -> Result<(), Fail> {
+        let table = examples::conditional();
+        check(&rt, &table, &[1, 2], Ok(&[0, 1, 3]))?;
+        check(&rt, &table, &[1, 1, 2, 3, 2], Ok(&[0, 0, 1, 2, 1, 3]))?;
+        check(&rt, &table, &[1, 2, 3, 2, 3, 2], Err(4))?;
+        check(&rt, &table, &[1, 2, 3], Err(3))
+    }
+}

@@ -1,4 +1,4 @@
-use Rattle.std.proofs.Common.{◌≡◌, ℕ, suc, ◌+◌, ◌-◌, ◌<◌, ◌≤◌, ◌++◌, List, [], ◌∷◌, append-nil, append_assoc, ap, sym, ◌∙◌, subst, reverse, length, arith}
+use Rattle.std.proofs.Common.{◌≡◌, suc, ◌-◌, ◌<◌, ◌++◌, [], ◌∷◌, append-nil, ap, sym, ◌∙◌, subst, reverse, arith}
 use Rattle.ll_parse.specs.Machine.{Expands, Leads}
 use Rattle.ll_parse.specs.Tables.{grammar_of, cell_of, lists_of}
 use Rattle.ll_parse.proofs.Steps.{popped, pushed, going_start, going_production, going_token, going_stuck, size_falls, production_inside, Size, nothing, longer}

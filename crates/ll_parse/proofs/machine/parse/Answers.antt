@@ -1,9 +1,8 @@
-use Rattle.std.proofs.Common.{◌≡◌, ℕ, suc, ◌+◌, ◌-◌, ◌<◌, ◌≤◌, ◌++◌, List, [], ◌∷◌, append-nil, append_assoc, ap, refl, sym, ◌∙◌, subst, reverse, length, take, get_or, arith}
+use Rattle.std.proofs.Common.{◌≡◌, ◌++◌, [], ◌∷◌, ap, refl, sym, ◌∙◌, subst, reverse, get_or}
 use Rattle.ll_parse.specs.Machine.{HasRead, IsKept, MatchTop}
 use Rattle.ll_parse.specs.Tables.{grammar_of, lists_of}
 use Rattle.ll_parse.proofs.Ends.{start_kept, refuse_here, other_token, no_more, not_ended, goes_on, ends_parsed, ends_only, ends_refused}
 use Rattle.ll_parse.proofs.Steps.{few}
-use Rattle.ll_parse.specs.declared.machine.Top.TheVariants.{Token, End, Stuck}
 use Rattle.ll_parse.proofs.machine.parse.Goals as goal
 
 pub loop-i-init : goal.loop-i-init

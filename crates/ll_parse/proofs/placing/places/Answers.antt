@@ -1,4 +1,4 @@
-use Rattle.std.proofs.Common.{reverse, arith, length, ◌<◌, ◌≤◌, ◌≡◌, sym, ◌∙◌, ap}
+use Rattle.std.proofs.Common.{reverse, arith}
 use Rattle.ll_parse.specs.Tables.{lists_of, grammar_of}
 use Rattle.ll_parse.proofs.PlaceSteps.{fits, production_fits, goes}
 use Rattle.ll_parse.proofs.Steps.{pushed}
