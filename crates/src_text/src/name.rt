@@ -2,6 +2,7 @@
 
 ghost use Rattle.std.specs.Prelude.{◌≡◌, IfOk};
 
+use sqlite_items::Items;
 use std::alloc::{AllocError, Global};
 use std::marker::Model;
 
@@ -10,6 +11,9 @@ use std::marker::Model;
 pub struct Name {
     text: String,
 }
+
+/// Names in order. Contracts see the list of them.
+pub type NameList = Items<Name>;
 
 impl Model for Name {
     ghost use Rattle.std.specs.Prelude.{List, ℕ};
