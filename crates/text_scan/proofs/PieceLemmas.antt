@@ -1,5 +1,5 @@
 -- The first part of a text has a byte at least, and no more than the text.
-use Rattle.std.proofs.Common.{◌≡◌, ◌≢◌, ℕ, zero, suc, ◌+◌, ◌<◌, ◌≤◌, ◌==◌, ◌||◌, Bool, true, false, not, cond, List, [], ◌∷◌, length, take, drop, get_or, nat_lt, position, unwrap_or, Option, None, Some, refl, sym, ◌∙◌, ap, subst, arith}
+use Rattle.std.proofs.Common.{◌≡◌, ℕ, zero, suc, ◌+◌, ◌<◌, ◌≤◌, ◌==◌, ◌||◌, Bool, true, false, not, cond, List, [], ◌∷◌, length, take, get_or, nat_lt, position, unwrap_or, Option, None, Some, refl, ap, arith}
 use Rattle.std.specs.List.{position_or_len, prefix_len}
 use Rattle.std.proofs.lemmas.Bool.{ltb-true}
 use Rattle.text_scan.specs.Pieces.{is_blank, is_line_end, line_len, or_shorter, longest_within, longest_of}

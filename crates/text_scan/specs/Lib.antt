@@ -1,2 +1,4 @@
 pub mod Pieces
 pub mod Tokens
+pub mod Words
+pub mod Sample

@@ -1,5 +1,5 @@
 -- How a text falls into blanks, comments and tokens (C99 6.4 and 6.4.9, IEEE 1364-2005 3.1 to 3.3).
-use Rattle.std.specs.Prelude.{ℕ, ◌+◌, ◌==◌, ◌&&◌, ◌||◌, Bool, true, false, if◌then◌else◌, List, [], ◌∷◌, length, take, drop, position, Option, None, Some, nat_eq, slice_index, unwrap_or}
+use Rattle.std.specs.Prelude.{ℕ, ◌+◌, ◌==◌, ◌&&◌, ◌||◌, Bool, if◌then◌else◌, List, [], ◌∷◌, length, take, drop, position, Option, None, Some, nat_eq, slice_index, unwrap_or}
 use Rattle.std.specs.List.{starts_with, zip}
 use Rattle.std.proofs.Common.{zero, suc}
 use Rattle.text_scan.specs.declared.pieces.Piece.{Piece}

@@ -4,6 +4,8 @@
 
 mod pieces;
 mod scanner;
+mod words;
 
-pub use pieces::{Piece, TokenRules};
+pub use pieces::{Piece, STRAY, TokenRules};
 pub use scanner::{Token, tokens_of};
+pub use words::{Word, kind_in, longest_in};

@@ -70,3 +70,6 @@ pub fn tokens_of<R: TokenRules>(
     }
     Ok(tokens)
 }
+
+#[cfg(test)]
+mod tests;

@@ -1,4 +1,4 @@
-use Rattle.std.proofs.Common.{sym, ap, subst, ◌<◌, ◌≤◌, length}
+use Rattle.std.proofs.Common.{sym, subst, ◌<◌, ◌≤◌, length}
 use Rattle.text_scan.specs.declared.pieces.Piece.{Piece}
 use Rattle.text_scan.proofs.PieceLemmas.{longest_of-len}
 use Rattle.text_scan.proofs.pieces.piece_at.Goals as goal

@@ -1,4 +1,4 @@
-use Rattle.std.proofs.Common.{◌≡◌, ◌+◌, drop, sym, ◌∙◌, ap, subst, arith, length-drop}
+use Rattle.std.proofs.Common.{◌≡◌, ◌+◌, sym, ◌∙◌, ap, subst, arith, length-drop}
 use Rattle.text_scan.specs.Pieces.{piece_of}
 use Rattle.text_scan.specs.Tokens.{fresh_after}
 use Rattle.text_scan.proofs.ScanSteps.{rest_is, Parts, parts-start, parts-step, parts-end}
