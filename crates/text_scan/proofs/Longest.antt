@@ -146,18 +146,23 @@ module _ (test : ℕ → Bool) where
       by true e ih l = ih (omega arith) (omega arith)
       by false e ih l = refl
 
+  pub run_passes : (bs : List ℕ) → list_all test (take (run_len test bs) bs) ≡ true
+  run_passes bs = subst (λ k. list_all test (take k bs) ≡ true) (sym (run_len-prefix_len bs)) (prefix_passes bs)
+
+  pub run_stops : (bs : List ℕ) (m : ℕ) → run_len test bs < m → m ≤ length bs → list_all test (take m bs) ≡ false
+  run_stops bs m l h = let e = run_len-prefix_len bs in longer_fails bs m (omega arith) h
+
   -- a token that begins with b, and goes on while bytes pass the test
   pub run_longest : (kind_of : List ℕ → Option ℕ) (kind : List ℕ → ℕ) (b : ℕ) (bs : List ℕ) →
       ((xs : List ℕ) → kind_of (b ∷ xs) ≡ cond (list_all test xs) (Some (kind (b ∷ xs))) None) →
       longest_of kind_of (b ∷ bs) ≡ Some (kind (b ∷ take (run_len test bs) bs), suc (run_len test bs))
   run_longest kind_of kind b bs is =
       let n = run_len test bs in
-      let e = run_len-prefix_len bs in
       let inside = run_len-le bs in
       longest_of-is kind_of (b ∷ bs) (kind (b ∷ take n bs)) (suc n) (omega arith) (omega arith)
-      (is (take n bs) ∙ cond_true (list_all test (take n bs)) (Some (kind (b ∷ take n bs))) None (subst (λ k. list_all test (take k bs) ≡ true) (sym e) (prefix_passes bs)))
-      (longer n e)
+      (is (take n bs) ∙ cond_true (list_all test (take n bs)) (Some (kind (b ∷ take n bs))) None (run_passes bs))
+      longer
     where
-      longer : (n : ℕ) → n ≡ prefix_len test bs → (m : ℕ) → suc n < m → m ≤ length (b ∷ bs) → kind_of (take m (b ∷ bs)) ≡ None
-      longer n e zero l h = absurd (omega arith)
-      longer n e (suc m) l h = is (take m bs) ∙ cond_false (list_all test (take m bs)) (Some (kind (b ∷ take m bs))) None (longer_fails bs m (omega arith) (omega arith))
+      longer : (m : ℕ) → suc (run_len test bs) < m → m ≤ length (b ∷ bs) → kind_of (take m (b ∷ bs)) ≡ None
+      longer zero l h = absurd (omega arith)
+      longer (suc m) l h = is (take m bs) ∙ cond_false (list_all test (take m bs)) (Some (kind (b ∷ take m bs))) None (run_stops bs m (omega arith) (omega arith))
