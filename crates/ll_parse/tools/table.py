@@ -5,7 +5,7 @@
 
 A grammar has lines `NAME = BODY | BODY ..`, the start symbol's first. A word that is the NAME of a line is a
 nonterminal, any other one a kind of token, numbered from 1 in the order of the lines `token NAME WORD` that come
-before, or of first use. A body that ends in `!WORD` isn't used before that kind of token. `#` begins a comment.
+before, or of first use. A body that ends in `unless:WORD` isn't used before that kind of token. `#` begins a comment.
 
 Nothing rests on this script: what it gives is checked by the test of the table.
 """
@@ -29,8 +29,8 @@ class Grammar:
             head, bodies = line.split(" =", 1)
             self.names.append(head)
             for words in split_at_bars(bodies.split()):
-                barred = [word[1:] for word in words if word.startswith("!")]
-                body = [word for word in words if not word.startswith("!")]
+                barred = [word[len("unless:"):] for word in words if word.startswith("unless:")]
+                body = [word for word in words if not word.startswith("unless:")]
                 for word in body:
                     if word not in heads:
                         self.kind(word)
