@@ -2,7 +2,7 @@
 
 ghost use Rattle.std.specs.Prelude.{◌≡◌, ℕ, ◌<◌, ◌≤◌, ◌^◌, ◌+◌, [], Some, length, map, count_by, slice_get, slice_index, IfOk, OnOk, OnErr};
 ghost use Rattle.bits_core.specs.Word.{Word as Worded};
-ghost use Rattle.word_eqs.specs.Graph.{graph, width_in, width_of_var, node_at, node_width, FitsNode, IsGraph, IsTyped, with_var, with_term, is_no_var, places, AreSubs, AreCopies, Extends, moved_node};
+ghost use Rattle.word_eqs.specs.Graph.{graph, width_in, width_of_var, node_at, node_width, FitsNode, IsTermAt, IsGraph, IsTyped, with_var, with_term, is_no_var, places, AreSubs, AreCopies, Extends, moved_node};
 ghost use Rattle.word_eqs.specs.Meaning.{Values, Respects, Makes, Copies, AreValues, look, word_at as word_of, node_word};
 ghost use Rattle.word_eqs.specs.declared.term.Term.{Term as Termed};
 ghost use Rattle.word_eqs.specs.Gates.{term_gates, node_gates};
@@ -60,7 +60,9 @@ impl Terms {
     /// The width of a term, in bits.
     pub fn width_of(&self, id: TermId) -> u8
         requires { id.0 < length self.now.terms }
-        ensures { result ≡ width_in self.now id.0 }
+        ensures width { result ≡ width_in self.now id.0 }
+        ensures some { 0 < result }
+        ensures within { result ≤ 128 }
     {
         self.term_at(id.0).width
     }
@@ -68,7 +70,9 @@ impl Terms {
     /// The width of a variable, in bits.
     pub fn width_of_var(&self, id: VarId) -> u8
         requires { id.0 < length self.now.vars }
-        ensures { result ≡ width_of_var self.now id.0 }
+        ensures width { result ≡ width_of_var self.now id.0 }
+        ensures some { 0 < result }
+        ensures within { result ≤ 128 }
     {
         self.vars[id.0 as usize]
     }
@@ -122,6 +126,7 @@ impl Terms {
         ensures some { 0 < result }
         ensures within { result ≤ 128 }
     {
+        let _ = &self.vars;
         match *node {
             TermNode::Const(word) => word.width(),
             TermNode::Var(x) => self.width_of_var(x),
@@ -138,7 +143,7 @@ impl Terms {
     fn term_at(&self, k: u32) -> Term
         requires { k < length self.now.terms }
         ensures at { slice_get self.now.terms k ≡ Some result }
-        ensures proper { IsGraph self.now }
+        ensures fits { IsTermAt self.now k result }
     {
         self.terms[k as usize]
     }
@@ -165,7 +170,8 @@ impl Terms {
         requires vars { map (λ (a : Worded). a.width) env.now ≡ self.now.vars }
         ensures { (x : Termed) → slice_get self.now.terms k ≡ Some x → result ≡ node_word (look (word_of env.now) words.now) x.node }
     {
-        match self.term_at(k).node {
+        let node = self.term_at(k).node;
+        match node {
             TermNode::Const(word) => word,
             TermNode::Var(x) => word_at(env, x.0),
             TermNode::One(op, a) => word_at(words, a.0).apply1(op),

@@ -1,0 +1,100 @@
+-- What a graph's terms are, by a word for each variable.
+use Rattle.std.proofs.Common.{◌≡◌, ◌≢◌, ℕ, zero, suc, ◌+◌, ◌<◌, ◌≤◌, ◌^◌, List, [], ◌∷◌, ◌++◌, length, get_or, Option, Some, None, refl, sym, ap, ◌∙◌, subst, arith, length-append}
+use Rattle.std.specs.Prelude.{slice_get, slice_set, slice_index}
+use Rattle.std.proofs.lemmas.List.{get_or_append_left, get_or-set_other, get_or-set_same}
+use Rattle.std.proofs.lemmas.Option.{slice_get-get_or, slice_get_within, get_or_from_slice_get}
+use Rattle.std.proofs.Math.Seq.{get_or-append_seam}
+use Rattle.bits_core.specs.Word.{Word, word, IsWord, at_zero, resized_word, sliced, joined}
+use Rattle.bits_core.specs.Ops.{word1, word2, width1, width2}
+use Rattle.bits_core.proofs.Proper.{word1_is, word2_is, resized_is, sliced_is, joined_is}
+use Rattle.word_eqs.specs.declared.term.TermId.{TermId}
+use Rattle.word_eqs.specs.declared.term.TermNode.{TermNode}
+use Rattle.word_eqs.specs.declared.term.TermNode.TheVariants.{Const, Var, One, Two, Choose, Resize, Slice, Join}
+use Rattle.word_eqs.specs.declared.term.Term.{Term}
+use Rattle.word_eqs.specs.Graph.{Graph, width_in, width_of_var, node_width, FitsNode, IsTermAt, IsGraph, Extends}
+use Rattle.word_eqs.specs.Meaning.{Values, node_word, AreValues, IsWordOf, FitsVars, Respects, word_at, look, eval, meaning}
+use Rattle.word_eqs.proofs.Graphs.{get_pushed, width_is, longer, get_kept}
+
+-- a node's word depends on those of its parts
+pub same_parts : (v w : Values) (g : Graph) (n : ℕ) (node : TermNode) → FitsNode g n node → ((x : ℕ) → x < length g.vars → v.var x ≡ w.var x) → ((k : ℕ) → k < n → v.term k ≡ w.term k) → node_word v node ≡ node_word w node
+same_parts v w g n (Const a) f h e = refl
+same_parts v w g n (Var x) f h e = h x.0 f
+same_parts v w g n (One op a) f h e = ap (word1 op) (e a.0 f)
+same_parts v w g n (Two op a b) f h e = ap (λ m. word2 op m (v.term b.0)) (e a.0 f.0) ∙ ap (word2 op (w.term a.0)) (e b.0 f.1)
+same_parts v w g n (Choose c a b) f h e =
+    ap (λ (m : Word). at_zero m.value (v.term b.0) (v.term a.0)) (e c.0 f.0) ∙ ap (λ m. at_zero (w.term c.0).value m (v.term a.0)) (e b.0 f.2) ∙ ap (λ m. at_zero (w.term c.0).value (w.term b.0) m) (e a.0 f.1)
+same_parts v w g n (Resize a to signed) f h e = ap (resized_word to signed) (e a.0 f.0)
+same_parts v w g n (Slice a high low) f h e = ap (sliced high low) (e a.0 f.0)
+same_parts v w g n (Join a b) f h e = ap (λ m. joined m (v.term b.0)) (e a.0 f.0) ∙ ap (joined (w.term a.0)) (e b.0 f.1)
+
+-- words that are there stay
+pub eval_keeps : (a : ℕ → Word) (words : List Word) (terms : List Term) (k : ℕ) → k < length words → word_at (eval a words terms) k ≡ word_at words k
+eval_keeps a words [] k lt = refl
+eval_keeps a words (x ∷ terms) k lt =
+    let y : Word = node_word (look a words) x.node in
+    let next : List Word = words ++ y ∷ [] in
+    let lt' : k < length next = omega (arith, length-append words (y ∷ [])) in
+    eval_keeps a next terms k lt' ∙ get_or_append_left words (y ∷ []) (word 0 0) k lt
+
+pub length-eval : (a : ℕ → Word) (words : List Word) (terms : List Term) → length (eval a words terms) ≡ length words + length terms
+length-eval a words [] = omega arith
+length-eval a words (x ∷ terms) =
+    let y : Word = node_word (look a words) x.node in
+    let h = length-eval a (words ++ y ∷ []) terms in
+    let l = length-append words (y ∷ []) in
+    omega arith
+
+-- the word of a term after others
+eval_at : (a : ℕ → Word) (g : Graph) (terms : List Term) (words : List Word) (k : ℕ) (x : Term) → slice_get terms k ≡ Some x → FitsNode g (length words + k) x.node → word_at (eval a words terms) (length words + k) ≡ node_word (look a (eval a words terms)) x.node
+eval_at a g [] words k x at f = cc
+eval_at a g (y ∷ terms) words zero x at f =
+    let z : Word = node_word (look a words) y.node in
+    let next : List Word = words ++ z ∷ [] in
+    let all : List Word = eval a next terms in
+    let is : y ≡ x = cc in
+    let n : length words + 0 ≡ length words = omega arith in
+    let there : length words < length next = omega (arith, length-append words (z ∷ [])) in
+    let f' : FitsNode g (length words) y.node = subst (λ m. FitsNode g m y.node) n (subst (λ (t : Term). FitsNode g (length words + 0) t.node) (sym is) f) in
+    let agree : (k : ℕ) → k < length words → word_at words k ≡ word_at all k = λ k lt. sym (eval_keeps a next terms k (omega arith) ∙ get_or_append_left words (z ∷ []) (word 0 0) k lt) in
+    let same : z ≡ node_word (look a all) y.node = same_parts (look a words) (look a all) g (length words) y.node f' (λ x lt. refl) agree in
+    ap (word_at all) n ∙ eval_keeps a next terms (length words) there ∙ get_or-append_seam words z [] (word 0 0) ∙ same ∙ ap (λ (t : Term). node_word (look a all) t.node) is
+eval_at a g (y ∷ terms) words (suc k) x at f =
+    let z : Word = node_word (look a words) y.node in
+    let next : List Word = words ++ z ∷ [] in
+    let n : length next + k ≡ length words + suc k = omega (arith, length-append words (z ∷ [])) in
+    let f' : FitsNode g (length next + k) x.node = subst (λ m. FitsNode g m x.node) (sym n) f in
+    ap (word_at (eval a next terms)) (sym n) ∙ eval_at a g terms next k x at f'
+
+-- the meaning of a graph under an assignment respects it
+pub meaning_respects : (a : ℕ → Word) (g : Graph) → IsGraph g → FitsVars a g → Respects (meaning a g) g
+meaning_respects a g h f = record {
+  vars = f;
+  terms = record { at = λ k x at.
+      let n : 0 + k ≡ k = omega arith in
+      let f' : FitsNode g (0 + k) x.node = subst (λ m. FitsNode g m x.node) (sym n) (h.terms k x at).fits in
+      ap (word_at (eval a [] g.terms)) (sym n) ∙ eval_at a g g.terms [] k x at f' };
+}
+
+-- two valuations that agree on the variables agree on all terms
+pub one_meaning : (v w : Values) (g : Graph) → IsGraph g → ((x : ℕ) → x < length g.vars → v.var x ≡ w.var x) → AreValues v g.terms → AreValues w g.terms → (k : ℕ) → k < length g.terms → v.term k ≡ w.term k
+one_meaning v w g h same p q k lt = up_to (length g.terms) (omega arith) k lt
+  where
+    up_to : (n : ℕ) → n ≤ length g.terms → (k : ℕ) → k < n → v.term k ≡ w.term k
+    up_to zero le k lt = absurd (omega arith)
+    up_to (suc n) le k lt =
+        let before : (j : ℕ) → j < n → v.term j ≡ w.term j = up_to n (omega arith) in
+        let x : Term = get_or g.terms k (record { node = Var (record { 0 = 0 }); width = 0 }) in
+        let within : k < length g.terms = omega arith in
+        let at : slice_get g.terms k ≡ Some x = slice_get-get_or g.terms k (record { node = Var (record { 0 = 0 }); width = 0 }) within in
+        p.at k x at ∙ same_parts v w g k x.node (h.terms k x at).fits same (λ j l. before j (omega arith)) ∙ sym (q.at k x at)
+
+-- evaluation of an extended graph keeps the words of the terms that were there
+pub old_words_kept : (a : ℕ → Word) (g h : Graph) → IsGraph g → IsGraph h → Extends g h → (k : ℕ) → k < length g.terms → (meaning a h).term k ≡ (meaning a g).term k
+old_words_kept a g h i j e k lt =
+    one_meaning (meaning a h) (meaning a g) g i (λ x l. refl) (record { at = λ k x at. (values a h j).at k x (get_kept g.terms h.terms k x e.terms at) }) (values a g i) k lt
+  where
+    values : (a : ℕ → Word) (g : Graph) → IsGraph g → AreValues (meaning a g) g.terms
+    values a g h = record { at = λ k x at.
+      let n : 0 + k ≡ k = omega arith in
+      let f' : FitsNode g (0 + k) x.node = subst (λ m. FitsNode g m x.node) (sym n) (h.terms k x at).fits in
+      ap (word_at (eval a [] g.terms)) (sym n) ∙ eval_at a g g.terms [] k x at f' }
