@@ -31,7 +31,7 @@ cost g node h f =
     let le : length g.terms ≤ length g.terms = omega arith in
     sum_by_push (λ (x : Term). node_gates (with_term g node) x.node) g.terms (record { node = node; width = node_width g node })
     ∙ ap (λ k. k + node_gates (with_term g node) node) (sum_by_same (λ (x : Term). node_gates (with_term g node) x.node) (λ (x : Term). node_gates g x.node) g.terms (λ k x at.
-        let within = slice_get_within g.terms k x at in
-        let le' : k ≤ length g.terms = omega arith in
-        node_gates_kept g (with_term g node) k x.node e le' (h.terms k x at).fits))
+    let within = slice_get_within g.terms k x at in
+    let le' : k ≤ length g.terms = omega arith in
+    node_gates_kept g (with_term g node) k x.node e le' (h.terms k x at).fits))
     ∙ ap (λ k. term_gates g + k) (node_gates_kept g (with_term g node) (length g.terms) node e le f)

@@ -1,7 +1,7 @@
 -- Graphs that grow: what was there stays, and what is added fits.
-use Rattle.std.proofs.Common.{◌≡◌, ℕ, zero, suc, ◌+◌, ◌-◌, ◌<◌, ◌≤◌, ◌^◌, List, [], ◌∷◌, ◌++◌, length, map, take, get_or, Option, Some, refl, sym, ap, ◌∙◌, subst, arith, length-append, ◌⊎◌, inl, inr}
+use Rattle.std.proofs.Common.{◌≡◌, ℕ, zero, suc, ◌+◌, ◌-◌, ◌<◌, ◌≤◌, ◌^◌, List, [], ◌∷◌, ◌++◌, length, map, take, drop, get_or, Option, Some, refl, sym, ap, ◌∙◌, subst, arith, length-append, ◌⊎◌, inl, inr}
 use Rattle.std.specs.Prelude.{slice_get, slice_index, All}
-use Rattle.std.proofs.lemmas.List.{get_or-take, length-take, length-map}
+use Rattle.std.proofs.lemmas.List.{get_or-take, length-take, take-append-le, take-append-drop}
 use Rattle.std.proofs.lemmas.List.Elements.{All-append}
 use Rattle.std.proofs.lemmas.Option.{slice_get-get_or, slice_get_within, get_or_from_slice_get}
 use Rattle.std.proofs.Math.Seq.{take-length}
@@ -53,7 +53,7 @@ get_pushed (z ∷ xs) y (suc k) x at = on (get_pushed xs y k x at)
 
 -- widths
 
-abbrev no_term : Term
+abbrev pub no_term : Term
 no_term = record { node = Var (record { 0 = 0 }); width = 0 }
 
 pub width_at : (g : Graph) (k : ℕ) → width_in g k ≡ (get_or g.terms k no_term).width
@@ -125,6 +125,16 @@ term_kept g h k x e le t = record {
 pub extends_refl : (g : Graph) → Extends g g
 extends_refl g = record { vars = take-length g.vars; terms = take-length g.terms }
 
+take_again : {X : Type 0} (xs ys zs : List X) → take (length xs) ys ≡ xs → take (length ys) zs ≡ ys → take (length xs) zs ≡ xs
+take_again xs ys zs e f =
+    let l : length xs ≤ length ys = longer xs ys e in
+    let m : length ys ≤ length zs = longer ys zs f in
+    let n : length xs ≤ length (take (length ys) zs) = omega (arith, ap length f) in
+    ap (take (length xs)) (sym (take-append-drop (length ys) zs)) ∙ take-append-le (length xs) (take (length ys) zs) (drop (length ys) zs) n ∙ ap (take (length xs)) f ∙ e
+
+pub extends_trans : (f g h : Graph) → Extends f g → Extends g h → Extends f h
+extends_trans f g h d e = record { vars = take_again f.vars g.vars h.vars d.vars e.vars; terms = take_again f.terms g.terms h.terms d.terms e.terms }
+
 pub extends_with_term : (g : Graph) (node : TermNode) → Extends g (with_term g node)
 extends_with_term g node = record { vars = take-length g.vars; terms = take-append_seam g.terms _ }
 
@@ -134,10 +144,12 @@ extends_with_var g w = record { vars = take-append_seam g.vars _; terms = take-l
 -- a valuation that respects a graph respects what it extends
 pub grown : (v : Values) (g h : Graph) → Extends g h → Respects v h → Respects v g
 grown v g h e r = record {
-  vars = record { at = λ x lt.
-      let l = longer g.vars h.vars e.vars in
-      let lt' : x < length h.vars = omega arith in
-      subst (λ k. IsWordOf k (v.var x)) (var_kept g h x e lt) (r.vars.at x lt') };
+  vars = record {
+    at = λ x lt.
+        let l = longer g.vars h.vars e.vars in
+        let lt' : x < length h.vars = omega arith in
+        subst (λ k. IsWordOf k (v.var x)) (var_kept g h x e lt) (r.vars.at x lt');
+  };
   terms = record { at = λ k x at. r.terms.at k x (get_kept g.terms h.terms k x e.terms at) };
 }
 
