@@ -1,12 +1,12 @@
 -- Gates of graphs that grow.
-use Rattle.std.proofs.Common.{◌≡◌, ℕ, zero, suc, ◌+◌, ◌*◌, ◌<◌, ◌≤◌, List, [], ◌∷◌, ◌++◌, length, Some, refl, sym, ap, ◌∙◌, arith}
+use Rattle.std.proofs.Common.{◌≡◌, ℕ, suc, ◌+◌, ◌*◌, ◌≤◌, List, [], ◌∷◌, length, Some, refl, sym, ap, ◌∙◌, arith}
 use Rattle.std.specs.Prelude.{slice_get, sum_by}
 use Rattle.std.proofs.lemmas.List.Sums.{sum_by-cons, sum_by_push}
 use Rattle.std.proofs.lemmas.Option.{slice_get_within}
 use Rattle.word_eqs.specs.declared.term.TermNode.{TermNode}
 use Rattle.word_eqs.specs.declared.term.TermNode.TheVariants.{Const, Var, One, Two, Choose, Resize, Slice, Join}
 use Rattle.word_eqs.specs.declared.term.Term.{Term}
-use Rattle.word_eqs.specs.Graph.{Graph, width_in, node_width, FitsNode, IsGraph, with_term, Extends}
+use Rattle.word_eqs.specs.Graph.{Graph, node_width, FitsNode, IsGraph, with_term, Extends}
 use Rattle.word_eqs.specs.Gates.{gates1, gates2, node_gates, term_gates}
 use Rattle.word_eqs.proofs.Graphs.{width_kept, extends_with_term}
 

@@ -1,19 +1,18 @@
 -- What a graph's terms are, by a word for each variable.
-use Rattle.std.proofs.Common.{◌≡◌, ◌≢◌, ℕ, zero, suc, ◌+◌, ◌<◌, ◌≤◌, ◌^◌, List, [], ◌∷◌, ◌++◌, length, get_or, Option, Some, None, refl, sym, ap, ◌∙◌, subst, arith, length-append, ◌⊎◌, inl, inr}
-use Rattle.std.specs.Prelude.{slice_get, slice_set, slice_index}
-use Rattle.std.proofs.lemmas.List.{get_or_append_left, get_or-set_other, get_or-set_same}
-use Rattle.std.proofs.lemmas.Option.{slice_get-get_or, slice_get_within, get_or_from_slice_get}
+use Rattle.std.proofs.Common.{◌≡◌, ℕ, zero, suc, ◌+◌, ◌<◌, ◌≤◌, ◌^◌, List, [], ◌∷◌, ◌++◌, length, get_or, Some, refl, sym, ap, ◌∙◌, subst, arith, length-append, ◌⊎◌, inl, inr}
+use Rattle.std.specs.Prelude.{slice_get}
+use Rattle.std.proofs.lemmas.List.{get_or_append_left}
+use Rattle.std.proofs.lemmas.Option.{slice_get-get_or}
 use Rattle.std.proofs.Math.Seq.{get_or-append_seam}
 use Rattle.bits_core.specs.Word.{Word, word, IsWord, at_zero, resized_word, sliced, joined}
 use Rattle.bits_core.specs.Ops.{word1, word2, width1, width2}
 use Rattle.bits_core.proofs.Proper.{word1_is, word2_is, resized_is, sliced_is, joined_is}
-use Rattle.word_eqs.specs.declared.term.TermId.{TermId}
 use Rattle.word_eqs.specs.declared.term.TermNode.{TermNode}
 use Rattle.word_eqs.specs.declared.term.TermNode.TheVariants.{Const, Var, One, Two, Choose, Resize, Slice, Join}
 use Rattle.word_eqs.specs.declared.term.Term.{Term}
-use Rattle.word_eqs.specs.Graph.{Graph, width_in, width_of_var, node_width, FitsNode, IsTermAt, IsGraph, Extends}
+use Rattle.word_eqs.specs.Graph.{Graph, width_in, width_of_var, node_width, FitsNode, IsGraph, Extends}
 use Rattle.word_eqs.specs.Meaning.{Values, node_word, AreValues, IsWordOf, FitsVars, Respects, word_at, look, eval, meaning}
-use Rattle.word_eqs.proofs.Graphs.{get_pushed, width_is, longer, get_kept}
+use Rattle.word_eqs.proofs.Graphs.{width_is, get_kept}
 
 -- a node's word depends on those of its parts
 pub same_parts : (v w : Values) (g : Graph) (n : ℕ) (node : TermNode) → FitsNode g n node → ((x : ℕ) → x < length g.vars → v.var x ≡ w.var x) → ((k : ℕ) → k < n → v.term k ≡ w.term k) → node_word v node ≡ node_word w node

@@ -1,12 +1,12 @@
 -- The words of the first terms of a graph.
-use Rattle.std.proofs.Common.{◌≡◌, ◌≢◌, ℕ, zero, suc, ◌+◌, ◌<◌, ◌≤◌, List, [], ◌∷◌, length, map, get_or, set, Some, refl, sym, ap, ◌∙◌, subst, arith, length-set}
-use Rattle.std.specs.Prelude.{slice_get, slice_set, slice_index}
+use Rattle.std.proofs.Common.{◌≡◌, ℕ, zero, suc, ◌+◌, ◌<◌, ◌≤◌, List, [], ◌∷◌, length, map, get_or, Some, refl, sym, ap, ◌∙◌, arith, length-set}
+use Rattle.std.specs.Prelude.{slice_get, slice_set}
 use borrow.Author.Count.{below_more}
 use Rattle.std.proofs.lemmas.Option.{slice_get_within}
 use Rattle.std.proofs.lemmas.List.{get_or-set_other, get_or-set_same}
 use Rattle.bits_core.specs.Word.{Word, word}
 use Rattle.word_eqs.specs.declared.term.Term.{Term}
-use Rattle.word_eqs.specs.Graph.{Graph, width_in, width_of_var, FitsNode, IsTermAt, IsGraph}
+use Rattle.word_eqs.specs.Graph.{Graph, width_in, width_of_var, IsGraph}
 use Rattle.word_eqs.specs.Meaning.{node_word, AreValues, word_at, look}
 use Rattle.word_eqs.proofs.Graphs.{width_is}
 use Rattle.word_eqs.proofs.Evals.{same_parts, node_word_width}

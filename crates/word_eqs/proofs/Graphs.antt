@@ -1,20 +1,19 @@
 -- Graphs that grow: what was there stays, and what is added fits.
-use Rattle.std.proofs.Common.{◌≡◌, ℕ, zero, suc, ◌+◌, ◌-◌, ◌<◌, ◌≤◌, ◌^◌, List, [], ◌∷◌, ◌++◌, length, map, take, drop, get_or, Option, Some, refl, sym, ap, ◌∙◌, subst, arith, length-append, ◌⊎◌, inl, inr}
-use Rattle.std.specs.Prelude.{slice_get, slice_index, All}
+use Rattle.std.proofs.Common.{◌≡◌, ℕ, zero, suc, ◌+◌, ◌<◌, ◌≤◌, ◌^◌, List, [], ◌∷◌, ◌++◌, length, map, take, drop, get_or, Some, refl, sym, ap, ◌∙◌, subst, arith, length-append, ◌⊎◌, inl, inr}
+use Rattle.std.specs.Prelude.{slice_get, All}
 use Rattle.std.proofs.lemmas.List.{get_or-take, length-take, take-append-le, take-append-drop}
 use Rattle.std.proofs.lemmas.List.Elements.{All-append}
 use Rattle.std.proofs.lemmas.Option.{slice_get-get_or, slice_get_within, get_or_from_slice_get}
 use Rattle.std.proofs.Math.Seq.{take-length}
 use Rattle.std.proofs.Math.Seq.{get_or-append_seam, take-append_seam}
-use Rattle.bits_core.specs.Word.{Word, IsWidth, IsWord, at_zero, resized_word, sliced, joined}
-use Rattle.bits_core.specs.Ops.{width1, width2, word1, word2}
+use Rattle.bits_core.specs.Word.{IsWidth}
+use Rattle.bits_core.specs.Ops.{width1, width2}
 use Rattle.bits_core.proofs.Proper.{width1_is, width2_is}
-use Rattle.word_eqs.specs.declared.term.TermId.{TermId}
 use Rattle.word_eqs.specs.declared.term.TermNode.{TermNode}
 use Rattle.word_eqs.specs.declared.term.TermNode.TheVariants.{Const, Var, One, Two, Choose, Resize, Slice, Join}
 use Rattle.word_eqs.specs.declared.term.Term.{Term}
-use Rattle.word_eqs.specs.Graph.{Graph, graph, width_in, width_of_var, node_width, FitsNode, IsTermAt, IsGraph, with_var, with_term, Extends, IsTyped}
-use Rattle.word_eqs.specs.Meaning.{Values, node_word, AreValues, IsWordOf, FitsVars, Respects, Makes}
+use Rattle.word_eqs.specs.Graph.{Graph, width_in, width_of_var, node_width, FitsNode, IsTermAt, IsGraph, with_var, with_term, Extends, IsTyped}
+use Rattle.word_eqs.specs.Meaning.{Values, IsWordOf, Respects, Makes}
 
 -- lists of which one begins with the other
 

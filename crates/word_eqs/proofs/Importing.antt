@@ -1,24 +1,24 @@
 -- Copies of terms, with other terms put in for the variables.
-use Rattle.std.proofs.Common.{◌≡◌, ℕ, zero, suc, ◌+◌, ◌*◌, ◌<◌, ◌≤◌, ◌^◌, Bool, true, false, List, [], ◌∷◌, ◌++◌, length, map, take, get_or, Some, refl, sym, ap, ◌∙◌, subst, arith, length-append}
+use Rattle.std.proofs.Common.{◌≡◌, ℕ, ◌+◌, ◌*◌, ◌<◌, ◌≤◌, ◌^◌, Bool, true, false, cond, add-zero, List, [], ◌∷◌, ◌++◌, length, take, get_or, Some, refl, sym, ap, ◌∙◌, subst, arith, length-append}
 use borrow.Author.Count.{below_more}
 use Rattle.std.specs.Prelude.{slice_get, slice_index, sum_by, count_by}
 use Rattle.std.proofs.lemmas.List.{get_or_append_left}
-use Rattle.std.proofs.lemmas.Option.{slice_get_within, get_or_from_slice_get, slice_get-get_or}
-use Rattle.std.proofs.lemmas.List.Sums.{sum_by_more}
+use Rattle.std.proofs.lemmas.Option.{slice_get_within, get_or_from_slice_get}
+use Rattle.std.proofs.lemmas.List.Sums.{sum_by_more, sum_by-take-le}
+use Rattle.std.proofs.lemmas.List.Sums.{count_by_more_yes, count_by_more_no}
 use Rattle.std.proofs.Math.Seq.{get_or-append_seam}
-use Rattle.bits_core.specs.Word.{Word}
-use Rattle.bits_core.specs.Ops.{width1, width2, word1, word2}
-use Rattle.word_eqs.specs.declared.term.TermId.{TermId}
+use Rattle.bits_core.specs.Ops.{width1, width2}
+use Rattle.word_eqs.specs.declared.term.VarId.{VarId}
 use Rattle.word_eqs.specs.declared.term.TermNode.{TermNode}
 use Rattle.word_eqs.specs.declared.term.TermNode.TheVariants.{Const, Var, One, Two, Choose, Resize, Slice, Join}
 use Rattle.word_eqs.specs.declared.term.Term.{Term}
-use Rattle.word_eqs.specs.Graph.{Graph, graph, width_in, width_of_var, node_width, FitsNode, IsTermAt, IsGraph, with_term, Extends}
+use Rattle.word_eqs.specs.Graph.{Graph, width_in, width_of_var, node_width, FitsNode, IsTermAt, IsGraph, with_term, Extends}
 use Rattle.word_eqs.specs.Import.{is_made, is_no_var, AreSubs, AreCopies, IsCopy, Copies, moved_node, through}
-use Rattle.word_eqs.specs.Meaning.{Values, node_word, AreValues, IsWordOf, Respects}
+use Rattle.word_eqs.specs.Meaning.{Values, node_word, Respects}
 use Rattle.word_eqs.specs.Gates.{gates1, gates2, node_gates, term_gates}
-use Rattle.word_eqs.proofs.Graphs.{longer, width_kept, var_kept, width_is, extends_refl, extends_trans, extends_with_term, grown, graph_with_term, get_last}
+use Rattle.word_eqs.proofs.Graphs.{longer, width_kept, width_is, extends_refl, extends_trans, extends_with_term, grown, graph_with_term, get_last}
 use Rattle.word_eqs.proofs.Counts.{cost}
-use Rattle.word_eqs.proofs.Evals.{same_parts}
+use Rattle.word_eqs.proofs.Evals.{same_parts, words_of_terms}
 
 -- a node whose parts are moved
 
@@ -66,7 +66,7 @@ moved_word v subs ids (Resize a to signed) m = refl
 moved_word v subs ids (Slice a high low) m = refl
 moved_word v subs ids (Join a b) m = refl
 
-count_made : (x : Term) → is_made x.node ≡ true → count_by is_no_var (x ∷ []) ≡ 1
+pub count_made : (x : Term) → is_made x.node ≡ true → count_by is_no_var (x ∷ []) ≡ 1
 count_made x m = simp m
 
 -- a variable is what was put in for it
@@ -107,7 +107,11 @@ copy_node g from subs ids k x h t c m room =
 
 -- terms before place k are those before it, and that at k
 count_more : (xs : List Term) (k : ℕ) (x : Term) → slice_get xs k ≡ Some x → count_by is_no_var (take (k + 1) xs) ≡ count_by is_no_var (take k xs) + count_by is_no_var (x ∷ [])
-count_more xs k x at = ?
+count_more xs k x at = on (is_no_var x) refl
+  where
+    on : (b : Bool) → is_no_var x ≡ b → count_by is_no_var (take (k + 1) xs) ≡ count_by is_no_var (take k xs) + count_by is_no_var (x ∷ [])
+    on true e = count_by_more_yes is_no_var xs k x (slice_get_within xs k x at) (ap is_no_var (get_or_from_slice_get xs k x x at) ∙ e) ∙ sym (ap (λ b. count_by is_no_var (take k xs) + (0 + cond b 1 0)) e)
+    on false e = count_by_more_no is_no_var xs k x (slice_get_within xs k x at) (ap is_no_var (get_or_from_slice_get xs k x x at) ∙ e) ∙ sym (ap (λ b. count_by is_no_var (take k xs) + (0 + cond b 1 0)) e ∙ add-zero _)
 
 -- the first k terms, copied
 pub record Imported (old new from : Graph) (subs ids : List ℕ) (k : ℕ) : Type 0 where
@@ -119,7 +123,7 @@ pub record Imported (old new from : Graph) (subs ids : List ℕ) (k : ℕ) : Typ
   pub count : length new.terms ≤ length old.terms + count_by is_no_var (take k from.terms)
   pub cost : term_gates new ≤ term_gates old + sum_by (λ (x : Term). node_gates from x.node) (take k from.terms)
 
-some_is : {X : Type 0} {x y : X} → Some x ≡ Some y → x ≡ y
+pub some_is : {X : Type 0} {x y : X} → Some x ≡ Some y → x ≡ y
 some_is e = cc
 
 kept : (ids : List ℕ) (t j : ℕ) → j < length ids → slice_index (ids ++ t ∷ []) j ≡ slice_index ids j
@@ -174,3 +178,49 @@ imported_more old mid new from subs ids k x t h i at c =
       count = omega arith;
       cost = omega arith;
     }
+
+-- what stands in no list of variables is made
+pub made : (node : TermNode) → ((x : VarId) → node ≡ Var x → ⊥) → is_made node ≡ true
+made (Const a) h = refl
+made (Var x) h = absurd (h x refl)
+made (One op a) h = refl
+made (Two op a b) h = refl
+made (Choose e a b) h = refl
+made (Resize a to signed) h = refl
+made (Slice a high low) h = refl
+made (Join a b) h = refl
+
+-- terms that are put in for variables still serve a longer graph
+pub subs_kept : (g h from : Graph) (subs : List ℕ) → Extends g h → AreSubs g from subs → AreSubs h from subs
+subs_kept g h from subs e s = record {
+  len = s.len;
+  there = λ x l. let n = longer g.terms h.terms e.terms in let t = s.there x l in omega arith;
+  widths = λ x l. width_kept g h (slice_index subs x) e (s.there x l) ∙ s.widths x l;
+}
+
+-- all terms, copied
+pub copies_all : (old new from : Graph) (subs ids : List ℕ) (k : ℕ) → length from.terms ≡ k → IsGraph from → AreSubs old from subs → Imported old new from subs ids k → Copies old new from subs ids
+copies_all old new from subs ids k n h s i = record {
+  grown = λ v r. grown v old new i.extends r;
+  value = λ v r. record {
+    vars = record {
+      at = λ x l.
+          let t = subs_kept old new from subs i.extends s in
+          let w = words_of_terms v new i.proper r (slice_index subs x) (t.there x l) in
+          let e : (v.term (slice_index subs x)).width ≡ width_of_var from x = w.1 ∙ t.widths x l in
+          record { width = e; below = subst (λ m. (v.term (slice_index subs x)).value < 2 ^ m) e w.0.below };
+    };
+    terms = record { at = λ j x at. let l = slice_get_within from.terms j x at in i.values v r j (omega arith) x at };
+  };
+}
+
+count_take : (xs : List Term) (k : ℕ) → count_by is_no_var (take k xs) ≤ count_by is_no_var xs
+count_take xs k = sum_by-take-le (λ x. cond (is_no_var x) 1 0) xs k
+
+-- room for the next term
+pub room_for : (old new from : Graph) (subs ids : List ℕ) (k : ℕ) (x : Term) → Imported old new from subs ids k → length old.terms + count_by is_no_var from.terms ≤ 2 ^ 31 → slice_get from.terms k ≡ Some x → length new.terms + count_by is_no_var (x ∷ []) ≤ 2 ^ 31
+room_for old new from subs ids k x i h at =
+    let c = i.count in
+    let m = count_more from.terms k x at in
+    let t = count_take from.terms (k + 1) in
+    omega arith

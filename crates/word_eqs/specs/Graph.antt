@@ -1,6 +1,6 @@
 -- Terms: a graph of nodes by their places, parts before what they are parts of.
 use Rattle.std.specs.Prelude.{◌≡◌, ℕ, ◌+◌, ◌-◌, ◌<◌, ◌≤◌, ◌^◌, List, [], ◌∷◌, ◌++◌, Option, Some, length, map, slice_get, slice_index, option_map, take, All}
-use Rattle.bits_core.specs.Word.{Word, IsWidth, IsWord}
+use Rattle.bits_core.specs.Word.{IsWidth, IsWord}
 use Rattle.bits_core.specs.Ops.{width1, width2}
 use Rattle.word_eqs.specs.declared.term.TermNode.{TermNode}
 use Rattle.word_eqs.specs.declared.term.TermNode.TheVariants.{Const, Var, One, Two, Choose, Resize, Slice, Join}

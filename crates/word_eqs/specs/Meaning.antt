@@ -1,5 +1,5 @@
 -- The words of terms.
-use Rattle.std.specs.Prelude.{◌≡◌, ℕ, ◌<◌, ◌^◌, List, [], ◌∷◌, ◌++◌, Some, length, map, slice_get}
+use Rattle.std.specs.Prelude.{◌≡◌, ℕ, ◌<◌, ◌^◌, List, [], ◌∷◌, ◌++◌, Some, length, slice_get}
 use Rattle.std.specs.List.{slice_index_or}
 use Rattle.bits_core.specs.Word.{Word, word, at_zero, resized_word, sliced, joined}
 use Rattle.bits_core.specs.Ops.{word1, word2}

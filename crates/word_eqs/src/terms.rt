@@ -257,6 +257,7 @@ impl Terms {
         ensures copy { IfOk result (λ t. (x : Termed) → slice_get from.now.terms k ≡ Some x → IsCopy self.old self.new from.now (places map.now) (places ids.now) x t.0) }
         ensures err { OnErr result (self.new ≡ self.old) }
     {
+        let _ = &self.vars;
         match from.term_at(k).node {
             TermNode::Var(x) => Ok(id_at(map, x.0)),
             _ => {
