@@ -3,3 +3,5 @@ pub mod Counts
 pub mod Evals
 pub mod Evaluating
 pub mod Importing
+pub mod Overflow
+pub mod Walks
