@@ -1,11 +1,11 @@
 -- The clauses of a net hold exactly of its values.
-use Rattle.std.proofs.Common.{◌≡◌, ◌≢◌, ℕ, suc, zero, ◌+◌, ◌*◌, ◌<◌, ◌≤◌, Bool, true, false, not, ◌==◌, ◌&&◌, ◌||◌, ◌↔◌, ltb, List, [], ◌∷◌, ◌++◌, length, take, get_or, Option, Some, None, Result, Ok, Err, OnOk, refl, sym, ap, ◌∙◌, subst, arith, length-append, add-one}
+use Rattle.std.proofs.Common.{◌≡◌, ◌≢◌, ℕ, suc, zero, ◌+◌, ◌*◌, ◌<◌, ◌≤◌, Bool, true, false, not, ◌&&◌, ◌||◌, ◌↔◌, ltb, List, [], ◌∷◌, ◌++◌, length, take, get_or, Some, None, Result, Ok, Err, OnOk, refl, sym, ap, ◌∙◌, subst, arith, length-append}
 use Rattle.std.specs.List.{IsDistinct, slice_get}
 use Rattle.std.specs.Option.{ForSome}
 use Rattle.std.proofs.lemmas.Bool.{and_parts, and_from, ne_eqb, lt-ltb}
 use Rattle.std.proofs.lemmas.List.{append_assoc, append-nil, length-take, length-take-le, take_more, take_all}
 use Rattle.clause_arena.specs.declared.Lit.{Lit}
-use Rattle.clause_arena.specs.Clause.{Clause, Clauses, clause_at, lit, opposite, bool_eq, satisfies, EachClause, IsModel, IsEachVariableOnce, is_below}
+use Rattle.clause_arena.specs.Clause.{Clause, Clauses, lit, opposite, bool_eq, satisfies, EachClause, IsModel, IsEachVariableOnce}
 use Rattle.clause_arena.proofs.Sets.{bool_eq-true, bool_eq-refl}
 use Rattle.clause_arena.proofs.Each.{EachClause-none, EachClause-cons, EachClause-append, EachClause-left, EachClause-right}
 use Rattle.gate_net.specs.declared.net.Edge.{Edge}

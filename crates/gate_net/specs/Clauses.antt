@@ -1,10 +1,9 @@
 -- The clauses of a node (G. S. Tseitin, On the complexity of derivation in propositional calculus,
 -- 1968): variable i stands for node i.
-use Rattle.std.specs.Prelude.{◌≡◌, ℕ, Bool, true, false, List, [], ◌∷◌, Some}
+use Rattle.std.specs.Prelude.{◌≡◌, ℕ, true, false, [], ◌∷◌, Some}
 use Rattle.clause_arena.specs.declared.Lit.{Lit}
 use Rattle.clause_arena.specs.Clause.{Clause, Clauses, lit, opposite, is_below, IsEachVariableOnce}
 use Rattle.gate_net.specs.declared.net.Edge.{Edge}
-use Rattle.gate_net.specs.declared.net.Gate.{Gate}
 use Rattle.gate_net.specs.declared.net.Node.{Node}
 use Rattle.gate_net.specs.declared.net.Node.TheVariants.{One, Input, And}
 

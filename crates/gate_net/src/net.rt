@@ -216,4 +216,11 @@ impl Net {
             negated: false,
         })
     }
+
+    /// Values of the inputs fix those of all nodes. It does nothing: its contract is a law.
+    pub fn values_law(&self)
+        ensures { IsDetermined self.now }
+    {
+        let _nodes = &self.nodes;
+    }
 }
