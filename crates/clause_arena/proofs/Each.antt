@@ -1,10 +1,10 @@
 -- Facts on each live clause, along lists of clauses.
-use Rattle.std.proofs.Common.{◌≡◌, ℕ, suc, zero, Bool, false, ◌==◌, ◌&&◌, List, [], ◌∷◌, ◌++◌, Option, Some, None}
+use Rattle.std.proofs.Common.{◌≡◌, suc, zero, false, ◌==◌, [], ◌∷◌, ◌++◌, Option, Some, None}
 use Rattle.std.specs.List.{IsDistinct, AllByRecursion}
 use Rattle.std.specs.Option.{ForSome}
 use Rattle.std.proofs.lemmas.Bool.{and_left}
 use Rattle.clause_arena.specs.declared.Lit.{Lit}
-use Rattle.clause_arena.specs.Clause.{Clause, Clauses, clause_at, EachClause, IsEachOnce, IsEachVariableOnce, bool_eq, lit_eq}
+use Rattle.clause_arena.specs.Clause.{Clause, Clauses, EachClause, IsEachOnce, IsEachVariableOnce, lit_eq}
 
 None-Some : (c : Clause) → None ≡ Some c → ⊥
 None-Some c e = cc

@@ -1,6 +1,6 @@
 -- That each literal stands once in a list, place by place.
-use Rattle.std.proofs.Common.{◌≡◌, ℕ, suc, zero, ◌+◌, ◌<◌, Bool, true, false, ◌||◌, List, [], ◌∷◌, length, drop, get_or, refl, sym, ap, ◌∙◌, arith, add-one}
-use Rattle.std.specs.List.{IsDistinct, AllByRecursion, list_any}
+use Rattle.std.proofs.Common.{◌≡◌, ℕ, suc, zero, ◌<◌, Bool, true, false, ◌||◌, [], ◌∷◌, length, drop, get_or, refl, ap, ◌∙◌, arith}
+use Rattle.std.specs.List.{IsDistinct, AllByRecursion}
 use Rattle.clause_arena.specs.declared.Lit.{Lit}
 use Rattle.clause_arena.specs.Clause.{Clause, lit_eq, has, IsEachOnce}
 
