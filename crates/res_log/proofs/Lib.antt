@@ -7,3 +7,4 @@ pub mod Decided
 pub mod Ends
 pub mod Exact
 pub mod Parts
+pub mod Marking

@@ -5,4 +5,5 @@ pub mod Partial
 pub mod Gaining
 pub mod Segments
 pub mod Shelf
+pub mod Marks
 pub mod CheckEnd

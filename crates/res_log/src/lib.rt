@@ -5,6 +5,8 @@ ghost use Rattle.std.specs.Prelude.{◌≡◌, ◌<◌, ◌≤◌, ◌↔◌, []
 ghost use Rattle.std.specs.List.{All, HoldsAt};
 ghost use Rattle.res_log.specs.Log.{RefutationLaw, LengthLaw, ExactLaw};
 
+mod marks;
+
 mod checks;
 
 pub use checks::{check, has_empty_clause};
