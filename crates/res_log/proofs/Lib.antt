@@ -8,3 +8,5 @@ pub mod Ends
 pub mod Exact
 pub mod Parts
 pub mod Marking
+pub mod Tables
+pub mod Keying

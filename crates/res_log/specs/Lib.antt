@@ -6,4 +6,6 @@ pub mod Gaining
 pub mod Segments
 pub mod Shelf
 pub mod Marks
+pub mod Origins
+pub mod Keys
 pub mod CheckEnd

@@ -32,14 +32,14 @@ pub fn is_known_before(log: &Log, k: u64, id: ClauseId) -> bool
 }
 
 pub fn are_links_live(arena: &ClauseArena, rest: &[ChainStep]) -> bool
-    ensures { result ≡ list_all (λ x. is_some (clause_at arena.now x.clause.0)) rest.now }
+    ensures { result ≡ list_all (λ x. is_some (clause_at arena.now.clauses x.clause.0)) rest.now }
 {
     rest.iter().all(|x| arena.is_live(x.clause))
 }
 
 pub fn are_ids_live(arena: &ClauseArena, log: &Log, k: u64) -> bool
     requires { k < length log.now }
-    ensures { HoldsAt (λ s. result ≡ has_live_ids arena.now s) log.now k }
+    ensures { HoldsAt (λ s. result ≡ has_live_ids arena.now.clauses s) log.now k }
 {
     arena.is_live(log.derived(k))
         && arena.is_live(log.first(k))
@@ -49,8 +49,8 @@ pub fn are_ids_live(arena: &ClauseArena, log: &Log, k: u64) -> bool
 /// The list of a known id.
 pub fn on_shelf<'a>(arena: &'a ClauseArena, log: &Log, k: u64, id: ClauseId) -> Option<&'a [Lit]>
     requires place { k ≤ length log.now }
-    requires live { is_some (clause_at arena.now id.0) ≡ true }
-    ensures { option_map (λ c. c.now) result ≡ shelf arena.now log.now k id.0 }
+    requires live { is_some (clause_at arena.now.clauses id.0) ≡ true }
+    ensures { option_map (λ c. c.now) result ≡ shelf arena.now.clauses log.now k id.0 }
 {
     if is_known_before(log, k, id) {
         Some(arena.lits(id))
@@ -69,8 +69,8 @@ pub fn run_chain(
     rest: &[ChainStep],
 ) -> Result<Option<Vec<Lit>>, AllocError>
     requires place { k ≤ length log.now }
-    requires live { list_all (λ x. is_some (clause_at arena.now x.clause.0)) rest.now ≡ true }
-    ensures { IfOk result (λ found. option_map (λ c. c.items) found ≡ chain (shelf arena.now log.now k) rest.now first.now) }
+    requires live { list_all (λ x. is_some (clause_at arena.now.clauses x.clause.0)) rest.now ≡ true }
+    ensures { IfOk result (λ found. option_map (λ c. c.items) found ≡ chain (shelf arena.now.clauses log.now k) rest.now first.now) }
 {
     let mut current: Vec<Lit> = Vec::from_slice(alloc, first)?;
     for x in rest {
@@ -93,8 +93,8 @@ pub fn chain_result(
     k: u64,
 ) -> Result<Option<Vec<Lit>>, AllocError>
     requires place { k < length log.now }
-    requires live { HoldsAt (λ s. has_live_ids arena.now s ≡ true) log.now k }
-    ensures { IfOk result (λ found. HoldsAt (λ s. option_map (λ c. c.items) found ≡ result_of (shelf arena.now log.now k) s) log.now k) }
+    requires live { HoldsAt (λ s. has_live_ids arena.now.clauses s ≡ true) log.now k }
+    ensures { IfOk result (λ found. HoldsAt (λ s. option_map (λ c. c.items) found ≡ result_of (shelf arena.now.clauses log.now k) s) log.now k) }
 {
     let rest = log.rest(k);
     if rest.is_empty() {
@@ -109,9 +109,9 @@ pub fn chain_result(
 /// Whether none of the first `k` steps derives an id with the same clause.
 pub fn is_new_clause(arena: &ClauseArena, log: &Log, k: u64, id: ClauseId) -> bool
     requires place { k ≤ length log.now }
-    requires live { is_some (clause_at arena.now id.0) ≡ true }
-    requires earlier { list_all (λ s. is_some (clause_at arena.now s.derived.0)) (take k log.now) ≡ true }
-    ensures { result ≡ is_new arena.now (take k log.now) id.0 }
+    requires live { is_some (clause_at arena.now.clauses id.0) ≡ true }
+    requires earlier { list_all (λ s. is_some (clause_at arena.now.clauses s.derived.0)) (take k log.now) ≡ true }
+    ensures { result ≡ is_new arena.now.clauses (take k log.now) id.0 }
 {
     let clause = arena.lits(id);
     for j in 0..k {
@@ -130,8 +130,8 @@ pub fn is_right_step(
     k: u64,
 ) -> Result<bool, AllocError>
     requires place { k < length log.now }
-    requires earlier { list_all (λ s. is_some (clause_at arena.now s.derived.0)) (take k log.now) ≡ true }
-    ensures { IfOk result (λ right. HoldsAt (λ s. right ≡ step_test arena.now log.now k s) log.now k) }
+    requires earlier { list_all (λ s. is_some (clause_at arena.now.clauses s.derived.0)) (take k log.now) ≡ true }
+    ensures { IfOk result (λ right. HoldsAt (λ s. right ≡ step_test arena.now.clauses log.now k s) log.now k) }
 {
     let derived = log.derived(k);
     if !are_ids_live(arena, log, k) {
@@ -151,7 +151,7 @@ pub fn is_right_step(
 
 /// Whether a live id has the empty clause.
 pub fn has_empty_clause(arena: &ClauseArena) -> bool
-    ensures { IsTrue result ↔ ((id : ℕ) × (clause_at arena.now id ≡ Some [])) }
+    ensures { IsTrue result ↔ ((id : ℕ) × (clause_at arena.now.clauses id ≡ Some [])) }
 {
     for id in 0..arena.count() {
         let id = ClauseId(id);
@@ -164,8 +164,8 @@ pub fn has_empty_clause(arena: &ClauseArena) -> bool
 
 /// Whether the log ends with the empty clause.
 pub fn ends_empty(arena: &ClauseArena, log: &Log) -> bool
-    requires { (k : ℕ) (s : Step) → k < length log.now → step_test arena.now log.now k (slice_index_or log.now k s) ≡ true }
-    ensures { IsTrue result ↔ EndsEmpty arena.now log.now }
+    requires { (k : ℕ) (s : Step) → k < length log.now → step_test arena.now.clauses log.now k (slice_index_or log.now k s) ≡ true }
+    ensures { IsTrue result ↔ EndsEmpty arena.now.clauses log.now }
 {
     if log.len() == 0 {
         return has_empty_clause(arena);
@@ -175,11 +175,11 @@ pub fn ends_empty(arena: &ClauseArena, log: &Log) -> bool
 
 /// Whether the log is valid and all its ids are live; else the first step that breaks a rule.
 pub fn check(alloc: Global, arena: &ClauseArena, log: &Log) -> Result<Checked, CheckEnd>
-    ensures valid { OnOk result (IsValid arena.now log.now) }
-    ensures live { OnOk result (AreLive arena.now log.now) }
+    ensures valid { OnOk result (IsValid arena.now.clauses log.now) }
+    ensures live { OnOk result (AreLive arena.now.clauses log.now) }
     ensures steps { IfOk result (λ c. c.steps ≡ length log.now) }
-    ensures empty { IfOk result (λ c. IsTrue c.ends_empty ↔ EndsEmpty arena.now log.now) }
-    ensures bad { IfErr result (IfBad (IsFirstBadStep arena.now log.now)) }
+    ensures empty { IfOk result (λ c. IsTrue c.ends_empty ↔ EndsEmpty arena.now.clauses log.now) }
+    ensures bad { IfErr result (IfBad (IsFirstBadStep arena.now.clauses log.now)) }
 {
     for k in 0..log.len() {
         match is_right_step(alloc, arena, log, k) {

@@ -6,6 +6,8 @@ ghost use Rattle.std.specs.List.{All, HoldsAt};
 ghost use Rattle.res_log.specs.Log.{RefutationLaw, LengthLaw, ExactLaw};
 
 mod marks;
+mod origins;
+mod seen;
 
 mod checks;
 
