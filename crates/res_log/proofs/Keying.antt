@@ -1,15 +1,15 @@
 -- Equal sets have equal keys, and only they.
-use Rattle.std.proofs.Common.{◌⊎◌, inl, inr, ◌≡◌, ℕ, suc, zero, ◌+◌, ◌*◌, ◌<◌, Bool, true, false, not, ◌&&◌, ◌||◌, List, [], ◌∷◌, ◌++◌, length, get_or, map, eqb, cond, refl, sym, ◌∙◌, ap, subst, arith}
+use Rattle.std.proofs.Common.{◌⊎◌, inl, inr, ◌≡◌, ℕ, suc, zero, ◌+◌, ◌*◌, ◌<◌, Bool, true, false, not, ◌||◌, List, [], ◌∷◌, ◌++◌, length, get_or, map, eqb, cond, refl, sym, ◌∙◌, ap, subst, arith}
 use Rattle.std.specs.Bool.{MatchBool}
 use Rattle.std.specs.List.{list_any, Contains, AllPairs}
-use Rattle.std.specs.List.Sorted.{IsStrictlyIncreasing, IsPermutation}
+use Rattle.std.specs.List.Sorted.{IsPermutation}
 use Rattle.std.specs.Cmp.Lexicographic.{pointwise}
-use Rattle.std.proofs.lemmas.Bool.{cases_Bool, eqb-true, eq-eqb, or_cases, or_left, or_right, and_parts, and_from, both_ways, false≢true, false_from_ne_true, not-false}
-use Rattle.std.proofs.lemmas.List.Folds.{list_any_at, list_any-append, Any-from_list_any}
+use Rattle.std.proofs.lemmas.Bool.{eqb-true, eq-eqb, or_cases, or_left, or_right, and_parts, and_from, false≢true, not-false}
+use Rattle.std.proofs.lemmas.List.Folds.{list_any-append}
 use Rattle.std.proofs.lemmas.List.Kept.{AllPairs-from_increasing}
 use Rattle.std.proofs.lemmas.List.Sorted.{list_any-IsPermutation}
 use Rattle.clause_arena.specs.declared.Lit.{Lit}
-use Rattle.clause_arena.specs.Clause.{Clause, lit, bool_eq, lit_eq, has, is_same}
+use Rattle.clause_arena.specs.Clause.{Clause, lit, lit_eq, has, is_same}
 use Rattle.clause_arena.proofs.Sets.{lit_eq-true, lit_eq-refl, is_same-at, is_same-from, bool_iff}
 use Rattle.res_log.specs.Keys.{code_of, IsKey, Remembers}
 
@@ -33,8 +33,8 @@ pub to-codes : (c : Clause) (l : Lit) → has c l ≡ true → Contains (map cod
 to-codes [] l h = absurd (false≢true h)
 to-codes (y ∷ ys) l h =
     elim (or_cases (lit_eq l y) (has ys l) h) [
-      inl e ↦ (0, omega arith, ap code_of (sym (lit_eq-true l y e)))
-    | inr e ↦ let w = to-codes ys l e in (suc w.0, omega (arith, w.1), w.2)
+      | inl e ↦ (0, omega arith, ap code_of (sym (lit_eq-true l y e)))
+      | inr e ↦ let w = to-codes ys l e in (suc w.0, omega (arith, w.1), w.2)
     ]
 
 -- each number is below those that come later
@@ -66,12 +66,12 @@ contains-none x w = let l : w.0 < 0 = w.1 in omega arith
 heads-same : (x : ℕ) (xs : List ℕ) (y : ℕ) (ys : List ℕ) → Rises (x ∷ xs) → Rises (y ∷ ys) → Contains (y ∷ ys) x → Contains (x ∷ xs) y → x ≡ y
 heads-same x xs y ys h g p q =
     elim (contains-cases y ys x p) [
-      inl e ↦ sym e
-    | inr u ↦
-        elim (contains-cases x xs y q) [
-          inl e ↦ e
-        | inr v ↦ let a : y < x = rises-head y ys x g u in let b : x < y = rises-head x xs y h v in absurd (omega arith)
-        ]
+      | inl e ↦ sym e
+      | inr u ↦
+          elim (contains-cases x xs y q) [
+            | inl e ↦ e
+            | inr v ↦ let a : y < x = rises-head y ys x g u in let b : x < y = rises-head x xs y h v in absurd (omega arith)
+          ]
     ]
 
 -- rising lists of the same numbers are equal
@@ -82,16 +82,16 @@ rising-same (x ∷ xs) [] h g f b = absurd (contains-none x (f x (contains-head 
 rising-same (x ∷ xs) (y ∷ ys) h g f b =
     let e : x ≡ y = heads-same x xs y ys h g (f x (contains-head x xs)) (b y (contains-head y ys)) in
     let fs : (z : ℕ) → Contains xs z → Contains ys z = λ (z : ℕ) (w : Contains xs z).
-        elim (contains-cases y ys z (f z (contains-tail x xs z w))) [
-          inl u ↦ let l : x < z = rises-head x xs z h w in absurd (omega arith)
-        | inr u ↦ u
-        ]
+    elim (contains-cases y ys z (f z (contains-tail x xs z w))) [
+      | inl u ↦ let l : x < z = rises-head x xs z h w in absurd (omega arith)
+      | inr u ↦ u
+    ]
     in
     let bs : (z : ℕ) → Contains ys z → Contains xs z = λ (z : ℕ) (w : Contains ys z).
-        elim (contains-cases x xs z (b z (contains-tail y ys z w))) [
-          inl u ↦ let l : y < z = rises-head y ys z g w in absurd (omega arith)
-        | inr u ↦ u
-        ]
+    elim (contains-cases x xs z (b z (contains-tail y ys z w))) [
+      | inl u ↦ let l : y < z = rises-head y ys z g w in absurd (omega arith)
+      | inr u ↦ u
+    ]
     in
     let t : xs ≡ ys = rising-same xs ys (rises-tail x xs h) (rises-tail y ys g) fs bs in
     ap (λ (z : ℕ). z ∷ xs) e ∙ ap (λ (zs : List ℕ). y ∷ zs) t
@@ -128,8 +128,8 @@ same-flip c d h = is_same-from d c (λ l. sym (is_same-at c d h l))
 key-test : (c d : Clause) (q p : List ℕ) → IsKey c q → IsKey d p → pointwise eqb q p ≡ is_same c d
 key-test c d q p h g =
     bool_iff (pointwise eqb q p) (is_same c d)
-      (λ t. set-same c d q h (subst (IsKey d) (sym (pointwise-true q p t)) g))
-      (λ s. subst (λ (x : List ℕ). pointwise eqb q x ≡ true) (key-same c d q p h g s (same-flip c d s)) (pointwise-refl q))
+    (λ t. set-same c d q h (subst (IsKey d) (sym (pointwise-true q p t)) g))
+    (λ s. subst (λ (x : List ℕ). pointwise eqb q x ≡ true) (key-same c d q p h g s (same-flip c d s)) (pointwise-refl q))
 
 list_any-map : {V : Type 0} (f : V → List ℕ) (t : List ℕ → Bool) (ks : List V) → list_any t (map f ks) ≡ list_any (λ k. t (f k)) ks
 list_any-map f t [] = refl
@@ -159,15 +159,16 @@ with-new f ks ns v q true e m =
 with-new f ks ns v q false e m =
     ap (λ (xs : List _). list_any (pointwise eqb q) (map f xs)) m
     ∙ or-known _ _ (λ t.
-        let s : q ≡ f v = pointwise-true q (f v) t in
-        list_any-map f (pointwise eqb q) ks ∙ subst (λ (x : List ℕ). list_any (λ k. pointwise eqb x (f k)) ks ≡ true) (sym s) (not-false _ (sym e)))
+    let s : q ≡ f v = pointwise-true q (f v) t in
+    list_any-map f (pointwise eqb q) ks ∙ subst (λ (x : List ℕ). list_any (λ k. pointwise eqb x (f k)) ks ≡ true) (sym s) (not-false _ (sym e)))
 
 pub remembers-more : {V : Type 0} (f : V → List ℕ) (ks ns : List V) (v : V) (added : Bool) → added ≡ not (list_any (λ k. pointwise eqb (f v) (f k)) ks) → MatchBool added (IsPermutation (v ∷ ks) ns) (ns ≡ ks)
     → (c : Clause) → IsKey c (f v) → (cs : List Clause) → Remembers (map f ks) cs → (added ≡ not (list_any (is_same c) cs)) × Remembers (map f ns) (cs ++ c ∷ [])
-remembers-more f ks ns v added e m c key cs r =
-    (e ∙ ap not (sym (list_any-map f (pointwise eqb (f v)) ks) ∙ r c (f v) key),
-     λ d q k.
-       with-new f ks ns v q added e m
-       ∙ ap (λ (b : Bool). b || pointwise eqb q (f v)) (r d q k)
-       ∙ ap (λ (b : Bool). list_any (is_same d) cs || b) (key-test d c q (f v) k key ∙ sym (or-false (is_same d c)))
-       ∙ sym (list_any-append (is_same d) cs (c ∷ [])))
+remembers-more f ks ns v added e m c key cs r = (
+  e ∙ ap not (sym (list_any-map f (pointwise eqb (f v)) ks) ∙ r c (f v) key),
+  λ d q k.
+      with-new f ks ns v q added e m
+      ∙ ap (λ (b : Bool). b || pointwise eqb q (f v)) (r d q k)
+      ∙ ap (λ (b : Bool). list_any (is_same d) cs || b) (key-test d c q (f v) k key ∙ sym (or-false (is_same d c)))
+      ∙ sym (list_any-append (is_same d) cs (c ∷ [])),
+)

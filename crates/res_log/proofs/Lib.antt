@@ -10,3 +10,5 @@ pub mod Parts
 pub mod Marking
 pub mod Tables
 pub mod Keying
+pub mod Chains
+pub mod Tests

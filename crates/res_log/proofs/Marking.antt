@@ -1,5 +1,5 @@
 -- Marks and the clauses that they stand for.
-use Rattle.std.proofs.Common.{inl, inr, ◌≡◌, ℕ, suc, zero, ◌+◌, ◌<◌, Bool, true, false, not, ◌&&◌, ◌||◌, List, [], ◌∷◌, ◌++◌, Option, Some, None, length, take, drop, get_or, eqb, cond, refl, sym, ◌∙◌, ap, subst, arith, append_assoc, append-nil}
+use Rattle.std.proofs.Common.{inl, inr, ◌≡◌, ℕ, suc, zero, ◌+◌, ◌<◌, Bool, true, false, not, ◌&&◌, ◌||◌, [], ◌∷◌, ◌++◌, Option, Some, None, length, take, drop, get_or, eqb, cond, refl, sym, ◌∙◌, ap, subst, arith, append_assoc, append-nil}
 use Rattle.std.specs.List.{list_any, list_all, count_by}
 use Rattle.std.specs.Bool.{MatchBool}
 use Rattle.std.specs.Option.{is_some, option_map_or, IsSomeAnd}
@@ -38,8 +38,8 @@ one-sign (Some false) false h g = false≢true g
 pub marked-plain : (m : Signs) (c : Clause) → Marks m c → is_tautology c ≡ false
 marked-plain m c h =
     false_from_ne_true _ (λ t.
-      let w = passing (λ l. has c (opposite l)) c t in
-      one-sign (sign_at m w.0.var) w.0.negative (h w.0 ∙ w.1) (h (opposite w.0) ∙ w.2))
+    let w = passing (λ l. has c (opposite l)) c t in
+    one-sign (sign_at m w.0.var) w.0.negative (h w.0 ∙ w.1) (h (opposite w.0) ∙ w.2))
 
 or_false : (b : Bool) → (b || false) ≡ b
 or_false true = refl
@@ -70,8 +70,8 @@ or_three false b c h f = f h
 pub all-more : (m n : Signs) (c d : Clause) (i : ℕ) (x : Lit) → i < length d → x ≡ get_or d i x → Marks m (c ++ take i d) → Adds m n x → Marks n (c ++ take (i + 1) d)
 all-more m n c d i x l e h a =
     subst (Marks n)
-      (append_assoc c (take i d) (x ∷ []) ∙ ap (λ (y : Lit). c ++ (take i d ++ y ∷ [])) e ∙ ap (λ (r : Clause). c ++ r) (sym (take_more d i x l)))
-      (marks-push m n (c ++ take i d) x h a)
+    (append_assoc c (take i d) (x ∷ []) ∙ ap (λ (y : Lit). c ++ (take i d ++ y ∷ [])) e ∙ ap (λ (r : Clause). c ++ r) (sym (take_more d i x l)))
+    (marks-push m n (c ++ take i d) x h a)
 
 -- the next literal's negation is marked
 pub all-clash : (m : Signs) (c d : Clause) (i : ℕ) (x : Lit) → i < length d → x ≡ get_or d i x → Marks m (c ++ take i d) → is_marked m (opposite x) ≡ true → is_tautology (c ++ d) ≡ true
@@ -89,22 +89,22 @@ pub without-added : (m n : Signs) (c d : Clause) (v i : ℕ) (x : Lit) → i < l
 without-added m n c d v i x l e ne h a =
     let f : not (eqb x.var v) ≡ true = not_from_false _ (ne_eqb _ _ ne) in
     subst (Marks n)
-      (append_assoc c (without v (take i d)) (x ∷ []) ∙ ap (λ (r : Clause). c ++ r) (sym (without-more v d i x l e ∙ ap (λ (r : Clause). without v (take i d) ++ r) (cond-true _ _ _ f))))
-      (marks-push m n (c ++ without v (take i d)) x h a)
+    (append_assoc c (without v (take i d)) (x ∷ []) ∙ ap (λ (r : Clause). c ++ r) (sym (without-more v d i x l e ∙ ap (λ (r : Clause). without v (take i d) ++ r) (cond-true _ _ _ f))))
+    (marks-push m n (c ++ without v (take i d)) x h a)
 
 pub without-passed : (m : Signs) (c d : Clause) (v i : ℕ) (x : Lit) → i < length d → x ≡ get_or d i x → x.var ≡ v → Marks m (c ++ without v (take i d)) → Marks m (c ++ without v (take (i + 1) d))
 without-passed m c d v i x l e q h =
     let f : not (eqb x.var v) ≡ false = not_from_true _ (eq-eqb _ _ q) in
     subst (λ (r : Clause). Marks m (c ++ r))
-      (sym (without-more v d i x l e ∙ ap (λ (r : Clause). without v (take i d) ++ r) (cond-false _ _ _ f) ∙ append-nil (without v (take i d)))) h
+    (sym (without-more v d i x l e ∙ ap (λ (r : Clause). without v (take i d) ++ r) (cond-false _ _ _ f) ∙ append-nil (without v (take i d)))) h
 
 pub without-clash : (m : Signs) (c d : Clause) (v i : ℕ) (x : Lit) → i < length d → x ≡ get_or d i x → (x.var ≡ v → ⊥) → Marks m (c ++ without v (take i d)) → is_marked m (opposite x) ≡ true → is_tautology (c ++ without v d) ≡ true
 without-clash m c d v i x l e ne h t =
     let w : (has c (opposite x) || has (without v (take i d)) (opposite x)) ≡ true = sym (has-append c (without v (take i d)) (opposite x)) ∙ sym (h (opposite x)) ∙ t in
     let f : not (eqb x.var v) ≡ true = not_from_false _ (ne_eqb _ _ ne) in
     let g : has (without v (take i d)) (opposite x) ≡ true → has (without v d) (opposite x) ≡ true =
-        λ (k : has (without v (take i d)) (opposite x) ≡ true).
-          has-without v d (opposite x) ∙ and_from _ _ (has-take i d (opposite x) (and_parts _ _ (sym (has-without v (take i d) (opposite x)) ∙ k)).0) f
+    λ (k : has (without v (take i d)) (opposite x) ≡ true).
+    has-without v d (opposite x) ∙ and_from _ _ (has-take i d (opposite x) (and_parts _ _ (sym (has-without v (take i d) (opposite x)) ∙ k)).0) f
     in
     let u : has (c ++ without v d) (opposite x) ≡ true = has-append c (without v d) (opposite x) ∙ or_three _ _ _ w g in
     let y : has (without v d) x ≡ true = has-without v d x ∙ and_from _ _ (has-at d i x l e) f in
@@ -178,11 +178,11 @@ pub resolved : (s : Bool) (m n : Signs) (c d : Clause) (v : ℕ) (b : Bool) → 
     → MatchBool b (IsSomeAnd (resolve c d v) (Marks n)) (resolve c d v ≡ None)
 resolved s m n c d v true h e f g =
     let t : (clash c d v && not (is_tautology (without v c ++ without v d))) ≡ true =
-        and_from _ _ (clash-marked s m c d v h e ∙ f) (not_from_false _ (marked-plain n (without v c ++ without v d) g))
+    and_from _ _ (clash-marked s m c d v h e ∙ f) (not_from_false _ (marked-plain n (without v c ++ without v d) g))
     in subst (λ (o : Option Clause). IsSomeAnd o (Marks n)) (sym (cond-true (clash c d v && not (is_tautology (without v c ++ without v d))) (Some (without v c ++ without v d)) None t)) g
 resolved s m n c d v false h e f g =
     cond-false (clash c d v && not (is_tautology (without v c ++ without v d))) (Some (without v c ++ without v d)) None
-      (and_right (clash c d v) (not (is_tautology (without v c ++ without v d))) (not_from_true _ g))
+    (and_right (clash c d v) (not (is_tautology (without v c ++ without v d))) (not_from_true _ g))
 
 same-sign : (o : Option Bool) (a b : Bool) → option_map_or (bool_eq a) o false ≡ true → option_map_or (bool_eq b) o false ≡ true → a ≡ b
 same-sign None a b h g = absurd (false≢true h)
@@ -208,25 +208,25 @@ pub none-left : (m n : Signs) (c d : Clause) → Marks m c → list_all (is_mark
 none-left m n c d h a e b =
     let f : (l : Lit) → has d l ≡ true → has c l ≡ true = λ (l : Lit) (k : has d l ≡ true). sym (h l) ∙ list_all-at (is_marked m) d a l k in
     let g : (l : Lit) → has c l ≡ true → has d l ≡ true = λ (l : Lit) (k : has c l ≡ true).
-        let t : is_marked m l ≡ true = h l ∙ k in
-        elim (cases_Bool (list_any (λ x. eqb x.var l.var) d)) [
-          inl u ↦
-            let w = passing (λ x. eqb x.var l.var) d u in
-            let same : w.0 ≡ l = same-var m w.0 l (list_all-at (is_marked m) d a w.0 w.1) t (eqb-true _ _ w.2) in
-            subst (λ (x : Lit). has d x ≡ true) same w.1
-        | inr u ↦ absurd (both_ways _ (sym (ap (λ (o : Option Bool). option_map_or (bool_eq l.negative) o false) (e l.var ∙ cond-false _ _ _ u)) ∙ b l) t)
-        ]
+    let t : is_marked m l ≡ true = h l ∙ k in
+    elim (cases_Bool (list_any (λ x. eqb x.var l.var) d)) [
+      | inl u ↦
+          let w = passing (λ x. eqb x.var l.var) d u in
+          let same : w.0 ≡ l = same-var m w.0 l (list_all-at (is_marked m) d a w.0 w.1) t (eqb-true _ _ w.2) in
+          subst (λ (x : Lit). has d x ≡ true) same w.1
+      | inr u ↦ absurd (both_ways _ (sym (ap (λ (o : Option Bool). option_map_or (bool_eq l.negative) o false) (e l.var ∙ cond-false _ _ _ u)) ∙ b l) t)
+    ]
     in is_same-from c d (λ l. bool_iff (has c l) (has d l) (g l) (f l))
 
 pub all-gone : (m n : Signs) (c d : Clause) → Marks m c → ((v : ℕ) → sign_at n v ≡ cond (list_any (λ x. eqb x.var v) d) None (sign_at m v)) → is_same c d ≡ true → IsBlank n
 all-gone m n c d h e s l =
     let q = ap (λ (o : Option Bool). option_map_or (bool_eq l.negative) o false) (e l.var) in
     elim (cases_Bool (list_any (λ x. eqb x.var l.var) d)) [
-      inl u ↦ q ∙ ap (λ (o : Option Bool). option_map_or (bool_eq l.negative) o false) (cond-true _ _ _ u)
-    | inr u ↦
-        q ∙ ap (λ (o : Option Bool). option_map_or (bool_eq l.negative) o false) (cond-false _ _ _ u)
-        ∙ h l ∙ is_same-at c d s l
-        ∙ false_from_ne_true _ (λ t. both_ways _ u (list_any-from_has (λ x. eqb x.var l.var) d l t (eq-eqb l.var l.var refl)))
+      | inl u ↦ q ∙ ap (λ (o : Option Bool). option_map_or (bool_eq l.negative) o false) (cond-true _ _ _ u)
+      | inr u ↦
+          q ∙ ap (λ (o : Option Bool). option_map_or (bool_eq l.negative) o false) (cond-false _ _ _ u)
+          ∙ h l ∙ is_same-at c d s l
+          ∙ false_from_ne_true _ (λ t. both_ways _ u (list_any-from_has (λ x. eqb x.var l.var) d l t (eq-eqb l.var l.var refl)))
     ]
 
 -- a clause with a literal that isn't marked is another set
@@ -237,7 +237,7 @@ not-all m c d h a =
 pub gone-more : (m n p : Signs) (d : Clause) (i : ℕ) (x : Lit) → i < length d → x ≡ get_or d i x → ((v : ℕ) → sign_at n v ≡ cond (list_any (λ x. eqb x.var v) (take i d)) None (sign_at m v)) → Sets n p x.var None → (v : ℕ) → sign_at p v ≡ cond (list_any (λ x. eqb x.var v) (take (i + 1) d)) None (sign_at m v)
 gone-more m n p d i x l e h s v =
     let t : list_any (λ y. eqb y.var v) (take (i + 1) d) ≡ (list_any (λ y. eqb y.var v) (take i d) || eqb x.var v) =
-        list_any_more (λ y. eqb y.var v) d i x l ∙ ap (λ (y : Lit). list_any (λ y. eqb y.var v) (take i d) || eqb y.var v) (sym e)
+    list_any_more (λ y. eqb y.var v) d i x l ∙ ap (λ (y : Lit). list_any (λ y. eqb y.var v) (take i d) || eqb y.var v) (sym e)
     in
     s v ∙ ap (λ (b : Bool). cond b None (sign_at n v)) (eqb-flip v x.var) ∙ ap (λ (o : Option Bool). cond (eqb x.var v) None o) (h v)
     ∙ cond-or (list_any (λ y. eqb y.var v) (take i d)) (eqb x.var v) (sign_at m v)

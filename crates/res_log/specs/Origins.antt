@@ -1,6 +1,6 @@
 -- Where the clause of an id comes from, seen from one step.
-use Rattle.std.specs.Prelude.{◌≡◌, ℕ, ◌<◌, Bool, true, false, List, length, take, Option, Some, None, slice_index_or, if◌then◌else◌}
-use Rattle.clause_arena.specs.Clause.{Clause, Clauses, clause_at}
+use Rattle.std.specs.Prelude.{◌≡◌, ℕ, ◌<◌, Bool, true, false, List, length, take, None, slice_index_or, if◌then◌else◌}
+use Rattle.clause_arena.specs.Clause.{Clauses, clause_at}
 use Rattle.res_log.specs.declared.origins.Origin.{Origin}
 use Rattle.res_log.specs.declared.origins.Origin.TheVariants.{Input, Later, Derived}
 use Rattle.res_log.specs.Step.{Step}

@@ -5,11 +5,10 @@ ghost use Rattle.std.specs.Prelude.{◌≡◌, ◌<◌, ◌≤◌, ◌↔◌, []
 ghost use Rattle.std.specs.List.{All, HoldsAt};
 ghost use Rattle.res_log.specs.Log.{RefutationLaw, LengthLaw, ExactLaw};
 
+mod checks;
 mod marks;
 mod origins;
 mod seen;
-
-mod checks;
 
 pub use checks::{check, has_empty_clause};
 use clause_arena::ClauseId;

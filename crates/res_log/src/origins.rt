@@ -60,7 +60,12 @@ fn set_origins(table: &mut Vec<Origin>, log: &Log, n: u64, origin: Origin)
 }
 
 /// The origins of the arena's ids, seen from step `k`.
-pub fn origins(alloc: Global, arena: &ClauseArena, log: &Log, k: u64) -> Result<Vec<Origin>, AllocError>
+pub fn origins(
+    alloc: Global,
+    arena: &ClauseArena,
+    log: &Log,
+    k: u64,
+) -> Result<Vec<Origin>, AllocError>
     requires { k ≤ length log.now }
     ensures len { IfOk result (λ table. length table.items ≡ length arena.now.clauses) }
     ensures table { IfOk result (λ table. IsTable log.now k table.items) }

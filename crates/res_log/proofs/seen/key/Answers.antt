@@ -1,4 +1,4 @@
-use Rattle.std.proofs.Common.{◌≡◌, sym, ap, subst, List, ℕ, map, ◌∙◌}
+use Rattle.std.proofs.Common.{sym, subst, List, ℕ}
 use Rattle.std.specs.List.{Contains}
 use Rattle.std.proofs.lemmas.List.Filters.{dedup_is}
 use Rattle.std.proofs.lemmas.List.Kept.{Contains-dedup_nat, Contains-from_dedup}
@@ -15,7 +15,7 @@ returns c =
     record {
       rises = rw is (IsStrictlyIncreasing-dedup _ c.sort_unstable.ensures.sorted);
       of = λ x h.
-        let w = subst (λ (xs : List ℕ). Contains xs x) c.in_ok-numbers.ensures (Contains-permutation _ _ x (IsPermutation-sym _ _ moved) (Contains-from_dedup _ _ x (rw is at h))) in
-        from-codes c.args.clause.now x w.0 w.1 w.2;
+          let w = subst (λ (xs : List ℕ). Contains xs x) c.in_ok-numbers.ensures (Contains-permutation _ _ x (IsPermutation-sym _ _ moved) (Contains-from_dedup _ _ x (rw is at h))) in
+          from-codes c.args.clause.now x w.0 w.1 w.2;
       all = λ l h. rw is (Contains-dedup_nat _ (code_of l) (Contains-permutation _ _ (code_of l) moved (subst (λ (xs : List ℕ). Contains xs (code_of l)) (sym c.in_ok-numbers.ensures) (to-codes c.args.clause.now l h))));
     }
