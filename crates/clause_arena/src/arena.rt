@@ -3,9 +3,11 @@
 //! Clauses stand in the order of their ids. A dead one leaves a gap, until `compact` moves the
 //! later ones down.
 
-ghost use Rattle.std.specs.Prelude.{◌≡◌, ◌<◌, ◌≤◌, ◌+◌, slice_range, [], ◌∷◌, ◌++◌, length, slice_set, Some, None, IfOk, OnOk, OnErr, IsSome, is_none, is_some, vec_len, vec_capacity};
+ghost use Rattle.std.specs.Prelude.{◌≡◌, ◌<◌, ◌≤◌, ◌+◌, slice_range, [], ◌∷◌, ◌++◌, length, slice_set, Some, None, IfOk, OnOk, OnErr, IsSome, IsSomeAnd, is_none, is_some, vec_len, vec_capacity, take, drop, ◌-◌, swap};
+ghost use Rattle.std.specs.Option.{ForSome};
 ghost use Rattle.clause_arena.specs.Arena.{HasNoLessRoom};
 ghost use Rattle.clause_arena.specs.Clause.{clause_at, IsEachOnce};
+ghost use Rattle.clause_arena.specs.Spans.{parts, AreInOrder};
 
 use crate::{ClauseId, Lit};
 use std::alloc::{AllocError, Global};
@@ -35,6 +37,47 @@ fn append_reserved(lits: &mut Vec<Lit>, more: &[Lit])
     for lit in more {
         lits.push_reserved(*lit);
     }
+}
+
+/// Moves a clause down to start at `end`, and says where it stands then. What comes before `end`
+/// and after the clause stays.
+fn move_down(lits: &mut Vec<Lit>, span: Span, end: usize) -> Span
+    requires start { span.from ≤ span.to }
+    requires room { span.to ≤ length lits.old.items }
+    requires down { end ≤ span.from }
+    ensures from { result.from ≡ end }
+    ensures to { result.to ≡ end + (span.to - span.from) }
+    ensures moved { slice_range lits.new.items result.from result.to ≡ slice_range lits.old.items span.from span.to }
+    ensures below { take end lits.new.items ≡ take end lits.old.items }
+    ensures above { drop span.to lits.new.items ≡ drop span.to lits.old.items }
+    ensures len { length lits.new.items ≡ length lits.old.items }
+    ensures capacity { vec_capacity lits.new ≡ vec_capacity lits.old }
+{
+    lits.copy_within(span.from..span.to, end);
+    Span {
+        from: end,
+        to: end + (span.to - span.from),
+    }
+}
+
+/// Moves each live clause down to where the one before it ends, and says where the last one ends.
+fn close_gaps(lits: &mut Vec<Lit>, spans: &mut [Option<Span>]) -> usize
+    requires { AreInOrder 0 (length lits.old.items) spans.old }
+    ensures same { parts lits.new.items spans.new ≡ parts lits.old.items spans.old }
+    ensures order { AreInOrder 0 result spans.new }
+    ensures within { result ≤ length lits.new.items }
+    ensures len { length lits.new.items ≡ length lits.old.items }
+    ensures capacity { vec_capacity lits.new ≡ vec_capacity lits.old }
+{
+    let mut end = 0;
+    for i in 0..spans.len() {
+        if let Some(span) = spans[i] {
+            let moved = move_down(lits, span, end);
+            spans[i] = Some(moved);
+            end = moved.to;
+        }
+    }
+    end
 }
 
 /// The clauses that were given an id, from 0 upwards. An id stays for good: a clause that is set
@@ -167,5 +210,26 @@ impl ClauseArena {
             Some(span) => span.is_some(),
             None => false,
         }
+    }
+
+    /// Exchanges two places in the list of a live clause. No other list changes.
+    pub fn swap(&mut self, id: ClauseId, i: u32, j: u32)
+        requires { IsSomeAnd (clause_at self.old.clauses id.0) (λ c. (i < length c) × (j < length c)) }
+        ensures swapped { ForSome (clause_at self.old.clauses id.0) (λ c. self.new.clauses ≡ slice_set self.old.clauses id.0 (Some (swap c i j))) }
+        ensures kept { HasNoLessRoom self.old self.new }
+    {
+        if let Some(span) = self.spans[id.0 as usize] {
+            self.lits
+                .swap(span.from + i as usize, span.from + j as usize);
+        }
+    }
+
+    /// Closes the gaps that dead clauses leave, and so makes room. Each id keeps its clause.
+    pub fn compact(&mut self)
+        ensures same { self.new.clauses ≡ self.old.clauses }
+        ensures kept { HasNoLessRoom self.old self.new }
+    {
+        let end = close_gaps(&mut self.lits, self.spans.as_mut_slice());
+        self.lits.truncate(end);
     }
 }
