@@ -12,3 +12,4 @@ pub mod Tables
 pub mod Keying
 pub mod Chains
 pub mod Tests
+pub mod Replays

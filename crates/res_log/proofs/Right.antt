@@ -2,13 +2,13 @@
 use Rattle.std.proofs.Common.{◌≡◌, ℕ, suc, zero, ◌+◌, ◌<◌, ◌≤◌, eqb, Bool, true, false, not, ◌&&◌, ◌||◌, List, [], ◌∷◌, ◌++◌, length, take, get_or, Option, Some, None, cond, refl, sym, ap, ◌∙◌, subst, arith, inl, inr, add-one, append_assoc, append-nil}
 use Rattle.std.specs.List.{list_any, AllZip}
 use Rattle.std.specs.Option.{is_some, unwrap_or, option_map_or, option_to_list, ForSome, IsSomeAnd}
-use Rattle.std.proofs.lemmas.Bool.{cases_Bool, and_parts, and_from, cases_lt, not_from_false, not-true, or_left, or_right, cond-true, cond-false, eqb-true, false≢true}
+use Rattle.std.proofs.lemmas.Bool.{cases_Bool, and_parts, and_from, cases_lt, cases_eq, both_ways, not_from_false, not-true, or_left, or_right, cond-true, cond-false, eqb-true, false≢true}
 use Rattle.std.proofs.lemmas.List.{take_more, get_or_past}
 use Rattle.std.proofs.lemmas.List.Folds.{list_any_more}
 use Rattle.clause_arena.specs.Clause.{Clause, Clauses, clause_at, is_same}
 use Rattle.res_log.specs.Step.{Step}
 use Rattle.res_log.specs.Log.{Book, derives, result_of, input, enter, enter_all, book_before, results_from, IsSoundStep, IsRightStep}
-use Rattle.res_log.specs.Segments.{AreSoundBelow, IsLiveStep}
+use Rattle.res_log.specs.Segments.{AreSoundBelow, IsLiveStep, AreLiveSteps, IsNextBadStep}
 use Rattle.clause_arena.specs.declared.ClauseId.{ClauseId}
 use Rattle.res_log.specs.Shelf.{is_known, shelf, lits_at, is_new, live_test}
 use Rattle.res_log.proofs.Same.{is_same-sym, is_same-trans, SameOption, SameLive, same-option-refl, result-live, is_same-equiv}
@@ -124,6 +124,23 @@ test-from-live arena log k s l f p =
     and_from _ _ (and_from _ _ p.0 (not_from_false _ p.1.0))
     (holds-back (result_of (shelf arena log k) s) (result_of (book_before arena log k) s) w.0 (lits_at arena s.derived.0) w.1 w.2
     (result-live arena (shelf arena log k) (book_before arena log k) (shelf-live arena log k l f) s p.0))
+
+pub live-more : (arena : Clauses) (log : List Step) (n k : ℕ) → k ≤ length log → AreSoundBelow arena log k → AreLiveSteps arena log n k → ((d : Step) → live_test arena log k (get_or log k d) ≡ true) → AreLiveSteps arena log n (k + 1)
+live-more arena log n k l f g t j d m q =
+    elim (cases_eq j k) [
+      | inl e ↦ subst (λ (i : ℕ). IsLiveStep arena log i (get_or log i d)) (sym e) (live-from-test arena log k (get_or log k d) l f (t d))
+      | inr u ↦ g j d m (omega arith)
+    ]
+
+pub sound-more : (arena : Clauses) (log : List Step) (k : ℕ) → k ≤ length log → AreSoundBelow arena log k → ((d : Step) → live_test arena log k (get_or log k d) ≡ true) → AreSoundBelow arena log (k + 1)
+sound-more arena log k l f t j d m =
+    elim (cases_eq j k) [
+      | inl e ↦ subst (λ (i : ℕ). IsSoundStep arena log i (get_or log i d)) (sym e) (live-from-test arena log k (get_or log k d) l f (t d)).1
+      | inr u ↦ f j d (omega arith)
+    ]
+
+pub next-bad : (arena : Clauses) (log : List Step) (n k : ℕ) → n ≤ k → k < length log → AreSoundBelow arena log k → AreLiveSteps arena log n k → ((d : Step) → live_test arena log k (get_or log k d) ≡ false) → IsNextBadStep arena log n k
+next-bad arena log n k m l f g b = (m, l, g, λ d p. both_ways _ (b d) (test-from-live arena log k (get_or log k d) (omega arith) f p))
 
 -- step j, where it is right
 abbrev pub AreRight : Clauses → List Step → ℕ → Type 0

@@ -132,7 +132,7 @@ pub fn has_empty_clause(arena: &ClauseArena) -> bool
 }
 
 /// Whether a sound log ends with the empty clause, its last id being live.
-fn ends_empty(arena: &ClauseArena, log: &Log) -> bool
+pub fn ends_empty(arena: &ClauseArena, log: &Log) -> bool
     requires sound { IsSound arena.now.clauses log.now }
     requires live { (d : Step) → 0 < length log.now → IsSome (clause_at arena.now.clauses (slice_index_or log.now (length log.now - 1) d).derived.0) }
     ensures { IsTrue result ↔ EndsEmpty arena.now.clauses log.now }
