@@ -1,0 +1,16 @@
+pub mod Refutes
+pub mod Length
+pub mod Steps
+pub mod Same
+pub mod Right
+pub mod Decided
+pub mod Ends
+pub mod Exact
+pub mod Parts
+pub mod Marking
+pub mod Tables
+pub mod Keying
+pub mod Chains
+pub mod StepTests
+pub mod Replays
+pub mod Keeps
