@@ -1,0 +1,9 @@
+pub mod Refutes
+pub mod Length
+pub mod Steps
+pub mod Same
+pub mod Right
+pub mod Decided
+pub mod Ends
+pub mod Exact
+pub mod Parts

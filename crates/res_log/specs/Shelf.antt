@@ -1,0 +1,27 @@
+-- A step looked at through the arena alone, which holds the results of the steps that were found right.
+use Rattle.std.specs.Prelude.{ℕ, Bool, false, ◌&&◌, ◌||◌, not, List, [], take, None, if◌then◌else◌}
+use Rattle.std.specs.List.{list_all}
+use Rattle.std.specs.Option.{unwrap_or, option_map_or}
+use Rattle.clause_arena.specs.Clause.{Clause, Clauses, clause_at, is_same}
+use Rattle.res_log.specs.Step.{Step}
+use Rattle.res_log.specs.Log.{Book, derives, result_of, has_live_ids}
+
+-- the id is an input, or derived before step k
+abbrev pub is_known : List Step → ℕ → ℕ → Bool
+is_known log k id = derives (take k log) id || not (derives log id)
+
+abbrev pub shelf : Clauses → List Step → ℕ → Book
+shelf arena log k id = if is_known log k id then clause_at arena id else None
+
+abbrev pub lits_at : Clauses → ℕ → Clause
+lits_at arena id = unwrap_or (clause_at arena id) []
+
+-- the arena has no list of the same set at an id that the steps derive
+abbrev pub is_new : Clauses → List Step → ℕ → Bool
+is_new arena steps id = list_all (λ t. not (is_same (lits_at arena id) (lits_at arena t.derived.0))) steps
+
+abbrev pub step_test : Clauses → List Step → ℕ → Step → Bool
+step_test arena log k s =
+    has_live_ids arena s && not (derives (take k log) s.derived.0)
+    && option_map_or (λ r. is_same r (lits_at arena s.derived.0)) (result_of (shelf arena log k) s) false
+    && is_new arena (take k log) s.derived.0
