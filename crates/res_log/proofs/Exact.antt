@@ -7,7 +7,7 @@ use Rattle.clause_arena.specs.Clause.{Clause, clause_at, is_same, AreDifferent}
 use Rattle.res_log.specs.Step.{Step}
 use Rattle.res_log.specs.Log.{Book, result_of, input, enter, enter_all, book_before, results_from, ExactLaw}
 use Rattle.res_log.proofs.Same.{is_same-sym}
-use Rattle.res_log.proofs.Decided.{some-parts, some-and}
+use Rattle.res_log.proofs.Right.{some-parts, some-and}
 
 at-middle : (xs ys : List Clause) (x r : Clause) → AllByRecursion (λ y. is_same x y ≡ false) (xs ++ r ∷ ys) → is_same x r ≡ false
 at-middle [] ys x r h = h.0

@@ -7,3 +7,9 @@ pub mod Decided
 pub mod Ends
 pub mod Exact
 pub mod Parts
+pub mod Marking
+pub mod Tables
+pub mod Keying
+pub mod Chains
+pub mod Tests
+pub mod Replays

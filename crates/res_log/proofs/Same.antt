@@ -1,12 +1,14 @@
 -- Resolution of other lists of the same sets.
 use Rattle.std.proofs.Common.{◌≡◌, ℕ, eqb, Bool, true, false, not, ◌&&◌, ◌||◌, List, [], ◌∷◌, ◌++◌, length, Option, Some, None, cond, refl, sym, ap, ◌∙◌}
-use Rattle.std.specs.Option.{option_and_then}
+use Rattle.std.specs.Option.{option_and_then, is_some}
+use Rattle.std.specs.List.{list_all}
 use Rattle.std.specs.Cmp.{IsEquivalence}
-use Rattle.clause_arena.specs.Clause.{Clause, lit, opposite, has, is_same, is_tautology, has_only, clash, without, resolve}
+use Rattle.std.proofs.lemmas.Bool.{and_parts}
+use Rattle.clause_arena.specs.Clause.{Clause, Clauses, clause_at, lit, opposite, has, is_same, is_tautology, has_only, clash, without, resolve}
 use Rattle.clause_arena.proofs.Sets.{passing, list_any-from_has, is_same-at, is_same-from, has-resolvent, bool_iff}
 use Rattle.res_log.specs.declared.ChainStep.{ChainStep}
 use Rattle.res_log.specs.Step.{Step}
-use Rattle.res_log.specs.Log.{Book, chain, result_of}
+use Rattle.res_log.specs.Log.{Book, chain, result_of, has_live_ids}
 
 pub is_same-refl : (c : Clause) → is_same c c ≡ true
 is_same-refl c = is_same-from c c (λ l. refl)
@@ -100,3 +102,20 @@ pub result-same : (a b : Book) → SameBook a b → (s : Step) → SameOption (r
 result-same a b f s =
     then-same (chain a s.rest) (chain b s.rest) (cond (eqb (length s.rest) 0) None (a s.first.0)) (cond (eqb (length s.rest) 0) None (b s.first.0))
     (unless-same (eqb (length s.rest) 0) (a s.first.0) (b s.first.0) (f s.first.0)) (chain-same a b f s.rest)
+
+-- the live ids have lists of one set in both books
+abbrev pub SameLive : Clauses → Book → Book → Type 0
+SameLive arena a b = (id : ℕ) → is_some (clause_at arena id) ≡ true → SameOption (a id) (b id)
+
+chain-live : (arena : Clauses) (a b : Book) → SameLive arena a b → (xs : List ChainStep) (c d : Clause) → list_all (λ x. is_some (clause_at arena x.clause.0)) xs ≡ true → is_same c d ≡ true → SameOption (chain a xs c) (chain b xs d)
+chain-live arena a b f [] c d l h = h
+chain-live arena a b f (x ∷ xs) c d l h =
+    let w = and_parts _ _ l in
+    then-same (λ e. option_and_then (chain a xs) (resolve c e x.pivot)) (λ e. option_and_then (chain b xs) (resolve d e x.pivot)) (a x.clause.0) (b x.clause.0) (f x.clause.0 w.0)
+    (λ e g k. then-same (chain a xs) (chain b xs) (resolve c e x.pivot) (resolve d g x.pivot) (resolve-same c d e g x.pivot h k) (λ u v. chain-live arena a b f xs u v w.1))
+
+pub result-live : (arena : Clauses) (a b : Book) → SameLive arena a b → (s : Step) → has_live_ids arena s ≡ true → SameOption (result_of a s) (result_of b s)
+result-live arena a b f s l =
+    let w = and_parts _ _ l in
+    then-same (chain a s.rest) (chain b s.rest) (cond (eqb (length s.rest) 0) None (a s.first.0)) (cond (eqb (length s.rest) 0) None (b s.first.0))
+    (unless-same (eqb (length s.rest) 0) (a s.first.0) (b s.first.0) (f s.first.0 (and_parts _ _ w.0).1)) (λ c d. chain-live arena a b f s.rest c d w.1)

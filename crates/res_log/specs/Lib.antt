@@ -5,4 +5,7 @@ pub mod Partial
 pub mod Gaining
 pub mod Segments
 pub mod Shelf
+pub mod Marks
+pub mod Origins
+pub mod Keys
 pub mod CheckEnd

@@ -1,5 +1,5 @@
 -- A step looked at through the arena alone, which holds the results of the steps that were found right.
-use Rattle.std.specs.Prelude.{ℕ, Bool, false, ◌&&◌, ◌||◌, not, List, [], take, None, if◌then◌else◌}
+use Rattle.std.specs.Prelude.{ℕ, Bool, false, ◌&&◌, ◌||◌, not, List, [], take, map, None, if◌then◌else◌}
 use Rattle.std.specs.List.{list_all}
 use Rattle.std.specs.Option.{unwrap_or, option_map_or}
 use Rattle.clause_arena.specs.Clause.{Clause, Clauses, clause_at, is_same}
@@ -20,8 +20,16 @@ lits_at arena id = unwrap_or (clause_at arena id) []
 abbrev pub is_new : Clauses → List Step → ℕ → Bool
 is_new arena steps id = list_all (λ t. not (is_same (lits_at arena id) (lits_at arena t.derived.0))) steps
 
-abbrev pub step_test : Clauses → List Step → ℕ → Step → Bool
-step_test arena log k s =
+-- the step is sound, and its ids are live
+abbrev pub live_test : Clauses → List Step → ℕ → Step → Bool
+live_test arena log k s =
     has_live_ids arena s && not (derives (take k log) s.derived.0)
     && option_map_or (λ r. is_same r (lits_at arena s.derived.0)) (result_of (shelf arena log k) s) false
-    && is_new arena (take k log) s.derived.0
+
+-- the step breaks no rule
+abbrev pub step_test : Clauses → List Step → ℕ → Step → Bool
+step_test arena log k s = live_test arena log k s && is_new arena (take k log) s.derived.0
+
+-- the arena's lists at the ids that the steps derive
+abbrev pub lists : Clauses → List Step → List Clause
+lists arena steps = map (λ t. lits_at arena t.derived.0) steps

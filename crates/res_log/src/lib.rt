@@ -6,9 +6,15 @@ ghost use Rattle.std.specs.List.{All, HoldsAt};
 ghost use Rattle.res_log.specs.Log.{RefutationLaw, LengthLaw, ExactLaw};
 
 mod checks;
+mod marks;
+mod origins;
+mod replay;
+mod seen;
+mod segments;
 
 pub use checks::{check, has_empty_clause};
 use clause_arena::ClauseId;
+pub use segments::Segments;
 use std::alloc::{AllocError, Global};
 use std::marker::Model;
 
