@@ -1,0 +1,49 @@
+//! The answer of the command, from its words and its files.
+
+use crate::answer::Answer;
+use crate::judging::can_break;
+use crate::options::{Options, UsageEnd};
+use crate::sources::{read_c, read_v};
+use crate::tracing::trace;
+use crate::words::options;
+use io_edge::{Files, read_all};
+use src_text::{Kind, Lang};
+use std::alloc::{AllocError, Global};
+
+/// The words, then the files, then the verdict: the first that stands in the way is the answer.
+pub fn answer_for<F: Files>(alloc: Global, words: &[String], files: &mut F) -> Answer {
+    match options(alloc, words) {
+        Ok(options) => read_files(alloc, options, files),
+        Err(UsageEnd::Usage) => Answer::Usage,
+        Err(UsageEnd::Memory) => Answer::Memory,
+    }
+}
+
+/// Reads the C file to its end, and then the Verilog file.
+fn read_files<F: Files>(alloc: Global, options: Options, files: &mut F) -> Answer {
+    let c_text = match read_all(alloc, files, options.c_file.text()) {
+        Ok(text) => text,
+        Err(end) => return Answer::unread(options.c_file, Lang::C, end),
+    };
+    let v_text = match read_all(alloc, files, options.v_file.text()) {
+        Ok(text) => text,
+        Err(end) => return Answer::unread(options.v_file, Lang::V, end),
+    };
+    judge(alloc, options, &c_text, &v_text)
+}
+
+fn judge(alloc: Global, options: Options, c_text: &[u8], v_text: &[u8]) -> Answer {
+    let Some(program) = read_c(c_text) else {
+        return Answer::refused(options.c_file, Lang::C, Kind::Unsupported);
+    };
+    let Some(counter) = read_v(v_text) else {
+        return Answer::refused(options.v_file, Lang::V, Kind::Unsupported);
+    };
+    if !can_break(program, counter, options.bounds) {
+        return Answer::Successful;
+    }
+    match trace(alloc, program, counter) {
+        Ok(text) => Answer::Failed(text),
+        Err(AllocError) => Answer::Memory,
+    }
+}

@@ -1,0 +1,65 @@
+//! The words of the command, and the options that they ask for.
+
+use crate::options::{Options, UsageEnd};
+use joint_ir::Bounds;
+use src_text::Name;
+use std::alloc::Global;
+
+/// How many clock edges a run takes at most, unless the words say it.
+const DEFAULT_FRAMES: u32 = 10;
+
+/// The most clock edges that the words may ask for.
+const MAX_FRAMES: u32 = 10_000;
+
+/// How many turns a loop takes at most, unless the words say it.
+const DEFAULT_UNWIND: u32 = 11;
+
+/// How many digits a number may have.
+const MAX_DIGITS: usize = 20;
+
+/// `C_FILE V_FILE` or `--bound K C_FILE V_FILE`.
+pub fn options(alloc: Global, words: &[String]) -> Result<Options, UsageEnd> {
+    match words {
+        [c_file, v_file] => with_files(alloc, DEFAULT_FRAMES, c_file.as_str(), v_file.as_str()),
+        [option, frames, c_file, v_file] if option.as_str() == "--bound" => {
+            match frames_of(frames.as_str()) {
+                Some(frames) => with_files(alloc, frames, c_file.as_str(), v_file.as_str()),
+                None => Err(UsageEnd::Usage),
+            }
+        }
+        _ => Err(UsageEnd::Usage),
+    }
+}
+
+fn with_files(alloc: Global, frames: u32, c_file: &str, v_file: &str) -> Result<Options, UsageEnd> {
+    if !is_file_name(c_file) || !is_file_name(v_file) {
+        return Err(UsageEnd::Usage);
+    }
+    Ok(Options {
+        bounds: Bounds {
+            unwind: DEFAULT_UNWIND,
+            frames,
+            check_bound: false,
+        },
+        c_file: Name::new(alloc, c_file)?,
+        v_file: Name::new(alloc, v_file)?,
+    })
+}
+
+fn is_file_name(word: &str) -> bool {
+    match word.as_bytes() {
+        [] => false,
+        [first, ..] => *first != b'-',
+    }
+}
+
+/// 1 to 20 decimal digits that say at most `MAX_FRAMES`.
+fn frames_of(word: &str) -> Option<u32> {
+    if word.len() > MAX_DIGITS || !word.bytes().all(|b| b.is_ascii_digit()) {
+        return None;
+    }
+    match word.parse::<u32>() {
+        Ok(frames) if frames <= MAX_FRAMES => Some(frames),
+        _ => None,
+    }
+}
