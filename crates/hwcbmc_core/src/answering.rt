@@ -1,7 +1,7 @@
 //! The answer of the command, from its words and its files.
 
 use crate::answer::Answer;
-use crate::judging::can_break;
+use crate::judging::breaks;
 use crate::options::{Options, UsageEnd};
 use crate::sources::{read_c, read_v};
 use crate::tracing::trace;
@@ -39,7 +39,7 @@ fn judge(alloc: Global, options: Options, c_text: &[u8], v_text: &[u8]) -> Answe
     let Some(counter) = read_v(v_text) else {
         return Answer::refused(options.v_file, Lang::V, Kind::Unsupported);
     };
-    if !can_break(program, counter, options.bounds) {
+    if !breaks(program, counter, options.bounds) {
         return Answer::Successful;
     }
     match trace(alloc, program, counter) {

@@ -1,5 +1,7 @@
 //! What the words of the command ask for.
 
+ghost use Rattle.std.specs.Prelude.{◌≡◌};
+
 use joint_ir::Bounds;
 use src_text::Name;
 use std::alloc::AllocError;

@@ -1,5 +1,8 @@
 //! The words of the command, and the options that they ask for.
 
+ghost use Rattle.std.specs.Prelude.{◌≡◌, IfOk, IsErrOf, map, None, Some, string_bytes};
+ghost use Rattle.hwcbmc_core.specs.Words.{options_of, on_files, names_file, frames_in};
+
 use crate::options::{Options, UsageEnd};
 use joint_ir::Bounds;
 use src_text::Name;
@@ -18,7 +21,10 @@ const DEFAULT_UNWIND: u32 = 11;
 const MAX_DIGITS: usize = 20;
 
 /// `C_FILE V_FILE` or `--bound K C_FILE V_FILE`.
-pub fn options(alloc: Global, words: &[String]) -> Result<Options, UsageEnd> {
+pub fn options(alloc: Global, words: &[String]) -> Result<Options, UsageEnd>
+    ensures ok { IfOk result (λ options. options_of (map string_bytes words.now) ≡ Some options) }
+    ensures usage { IsErrOf result UsageEnd.Usage → options_of (map string_bytes words.now) ≡ None }
+{
     match words {
         [c_file, v_file] => with_files(alloc, DEFAULT_FRAMES, c_file.as_str(), v_file.as_str()),
         [option, frames, c_file, v_file] if option.as_str() == "--bound" => {
@@ -31,7 +37,10 @@ pub fn options(alloc: Global, words: &[String]) -> Result<Options, UsageEnd> {
     }
 }
 
-fn with_files(alloc: Global, frames: u32, c_file: &str, v_file: &str) -> Result<Options, UsageEnd> {
+fn with_files(alloc: Global, frames: u32, c_file: &str, v_file: &str) -> Result<Options, UsageEnd>
+    ensures ok { IfOk result (λ options. on_files c_file.now v_file.now frames ≡ Some options) }
+    ensures usage { IsErrOf result UsageEnd.Usage → on_files c_file.now v_file.now frames ≡ None }
+{
     if !is_file_name(c_file) || !is_file_name(v_file) {
         return Err(UsageEnd::Usage);
     }
@@ -46,7 +55,9 @@ fn with_files(alloc: Global, frames: u32, c_file: &str, v_file: &str) -> Result<
     })
 }
 
-fn is_file_name(word: &str) -> bool {
+fn is_file_name(word: &str) -> bool
+    ensures { result ≡ names_file word.now }
+{
     match word.as_bytes() {
         [] => false,
         [first, ..] => *first != b'-',
@@ -54,7 +65,9 @@ fn is_file_name(word: &str) -> bool {
 }
 
 /// 1 to 20 decimal digits that say at most `MAX_FRAMES`.
-fn frames_of(word: &str) -> Option<u32> {
+fn frames_of(word: &str) -> Option<u32>
+    ensures { result ≡ frames_in word.now }
+{
     if word.len() > MAX_DIGITS || !word.bytes().all(|b| b.is_ascii_digit()) {
         return None;
     }

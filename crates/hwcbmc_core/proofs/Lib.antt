@@ -1,0 +1,6 @@
+pub mod BoolLemmas
+pub mod NumberLemmas
+pub mod OptionLemmas
+pub mod SourceLemmas
+pub mod RunLemmas
+pub mod TraceLemmas
