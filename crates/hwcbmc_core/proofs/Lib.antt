@@ -4,3 +4,4 @@ pub mod OptionLemmas
 pub mod SourceLemmas
 pub mod RunLemmas
 pub mod TraceLemmas
+pub mod WordLemmas

@@ -7,6 +7,8 @@ use Rattle.src_text.specs.declared.refusal.Lang.{Lang}
 use Rattle.src_text.specs.declared.refusal.Lang.TheVariants.{C, V}
 use Rattle.src_text.specs.declared.kind.Kind.{Kind}
 use Rattle.src_text.specs.declared.kind.Kind.TheVariants.{TooLong, Unsupported}
+use Rattle.io_edge.specs.declared.reading.ReadEnd.{ReadEnd}
+use Rattle.io_edge.specs.declared.reading.ReadEnd.TheVariants as ends
 use Rattle.hwcbmc_core.specs.declared.options.Options.{Options}
 use Rattle.hwcbmc_core.specs.declared.sources.Program.{Program}
 use Rattle.hwcbmc_core.specs.declared.sources.Counter.{Counter}
@@ -85,6 +87,28 @@ IsTraceOfBreak program counter options text =
     (property : Property) × (choices : List ℕ)
     × ((run_of program counter options.bounds choices).outcome ≡ Broken property)
     × (text ≡ trace_text property (run_of program counter options.bounds choices).events)
+
+-- the answer where a file isn't there as a whole
+abbrev pub unread : List ℕ → Lang → ReadEnd → Answer
+unread file lang ends.Failed = ReadFault file
+unread file lang ends.TooLong = Refused file (at_beginning lang TooLong)
+unread file lang ends.Memory = Memory
+
+-- The answer is right for these texts.
+abbrev pub IsJudged : Options → List ℕ → List ℕ → Answer → Type 0
+IsJudged options c_text v_text Usage = ⊥
+IsJudged options c_text v_text (ReadFault file) = ⊥
+IsJudged options c_text v_text (Refused file refusal) =
+    ((file ≡ options.c_file) × (refusal ≡ at_beginning C Unsupported) × ((program : Program) → ¬ (IsProgram c_text program)))
+    ⊎ ((file ≡ options.v_file) × (refusal ≡ at_beginning V Unsupported) × ((program : Program) × IsProgram c_text program)
+      × ((counter : Counter) → ¬ (IsCounter v_text counter)))
+IsJudged options c_text v_text (Failed trace) =
+    (program : Program) × (counter : Counter) × IsProgram c_text program × IsCounter v_text counter
+    × IsTraceOfBreak program counter options (string_bytes trace)
+IsJudged options c_text v_text Successful =
+    (program : Program) × (counter : Counter) × IsProgram c_text program × IsCounter v_text counter
+    × ((property : Property) → ¬ (CanBreak program counter options.bounds property))
+IsJudged options c_text v_text Memory = Unit {0}
 
 -- The answer is right for words that have these options.
 abbrev pub IsRightFor : Options → (List ℕ → Option (List ℕ)) → Reading → Reading → Answer → Type 0

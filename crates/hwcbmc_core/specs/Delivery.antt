@@ -41,13 +41,12 @@ pub record IsCut (text : List ℕ) (old new : Stream) : Type 0 where
   pub written : AppendsPart old.written new.written text
   pub rose : Rose old.faults new.faults
 
--- The answer's own status comes with its whole text, and 8 with a part of it.
-abbrev pub IsDeliveredTo : Answer → ℕ → Stream → Stream → Type 0
-IsDeliveredTo answer status old new =
-    ((status ≡ status_of answer) × IsSent (message_of answer) old new) ⊎ ((status ≡ 8) × IsCut (message_of answer) old new)
+-- The status comes with the whole text, and 8 with a part of it.
+abbrev pub IsSentAs : List ℕ → ℕ → ℕ → Stream → Stream → Type 0
+IsSentAs text status given old new = ((given ≡ status) × IsSent text old new) ⊎ ((given ≡ 8) × IsCut text old new)
 
 -- Verdicts go to the first stream, and all else to the second. The other stream stays as it was.
 abbrev pub IsDelivered : Answer → ℕ → Stream → Stream → Stream → Stream → Type 0
-IsDelivered (Failed trace) status out out_after err err_after = IsDeliveredTo (Failed trace) status out out_after × (err_after ≡ err)
-IsDelivered Successful status out out_after err err_after = IsDeliveredTo Successful status out out_after × (err_after ≡ err)
-IsDelivered answer status out out_after err err_after = IsDeliveredTo answer status err err_after × (out_after ≡ out)
+IsDelivered (Failed trace) given out out_after err err_after = IsSentAs (string_bytes trace) 10 given out out_after × (err_after ≡ err)
+IsDelivered Successful given out out_after err err_after = IsSentAs (message_of Successful) 0 given out out_after × (err_after ≡ err)
+IsDelivered answer given out out_after err err_after = IsSentAs (message_of answer) (status_of answer) given err err_after × (out_after ≡ out)

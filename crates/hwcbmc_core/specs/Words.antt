@@ -1,12 +1,14 @@
 -- The words of the command, and the options that they ask for.
 use Rattle.std.specs.Prelude.{ℕ, Bool, true, false, ◌==◌, ◌&&◌, nat_le, not, List, [], ◌∷◌, length, Option, None, Some, option_and_then, if◌then◌else◌, codes}
-use Rattle.std.specs.Str.{bytes_eq, all_ascii_digits}
+use Rattle.std.specs.Char.{is_ascii_digit}
+use Rattle.std.specs.List.{list_all}
+use Rattle.std.specs.Str.{bytes_eq}
 use Rattle.std.specs.Str.Parse.{digits_value}
 use Rattle.hwcbmc_core.specs.declared.options.Options.{Options}
 
 -- A number is 1 to 20 decimal digits, leading zeros allowed.
 abbrev pub is_numeral : List ℕ → Bool
-is_numeral word = nat_le 1 (length word) && nat_le (length word) 20 && all_ascii_digits word
+is_numeral word = not (length word == 0) && (nat_le (length word) 20 && list_all is_ascii_digit word)
 
 -- the clock edges that a word asks for: at most 10,000
 abbrev pub frames_in : List ℕ → Option ℕ

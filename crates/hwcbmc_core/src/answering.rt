@@ -1,5 +1,8 @@
 //! The answer of the command, from its words and its files.
 
+ghost use Rattle.std.specs.Prelude.{◌≤◌, length, map, string_bytes};
+ghost use Rattle.hwcbmc_core.specs.Answers.{IsRight, IsRightFor, IsJudged};
+
 use crate::answer::Answer;
 use crate::judging::breaks;
 use crate::options::{Options, UsageEnd};
@@ -11,7 +14,12 @@ use src_text::{Kind, Lang};
 use std::alloc::{AllocError, Global};
 
 /// The words, then the files, then the verdict: the first that stands in the way is the answer.
-pub fn answer_for<F: Files>(alloc: Global, words: &[String], files: &mut F) -> Answer {
+pub fn answer_for<F: Files>(alloc: Global, words: &[String], files: &mut F) -> Answer
+    ensures { IsRight (map string_bytes words.now) (F.told files.old)
+        (record { started = F.started files.old; taken = F.taken files.old; faults_since_start = F.faults_since_start files.old; faults = F.read_faults files.old })
+        (record { started = F.started files.new; taken = F.taken files.new; faults_since_start = F.faults_since_start files.new; faults = F.read_faults files.new })
+        result }
+{
     match options(alloc, words) {
         Ok(options) => read_files(alloc, options, files),
         Err(UsageEnd::Usage) => Answer::Usage,
@@ -20,7 +28,12 @@ pub fn answer_for<F: Files>(alloc: Global, words: &[String], files: &mut F) -> A
 }
 
 /// Reads the C file to its end, and then the Verilog file.
-fn read_files<F: Files>(alloc: Global, options: Options, files: &mut F) -> Answer {
+fn read_files<F: Files>(alloc: Global, options: Options, files: &mut F) -> Answer
+    ensures { IsRightFor options (F.told files.old)
+        (record { started = F.started files.old; taken = F.taken files.old; faults_since_start = F.faults_since_start files.old; faults = F.read_faults files.old })
+        (record { started = F.started files.new; taken = F.taken files.new; faults_since_start = F.faults_since_start files.new; faults = F.read_faults files.new })
+        result }
+{
     let c_text = match read_all(alloc, files, options.c_file.text()) {
         Ok(text) => text,
         Err(end) => return Answer::unread(options.c_file, Lang::C, end),
@@ -32,7 +45,10 @@ fn read_files<F: Files>(alloc: Global, options: Options, files: &mut F) -> Answe
     judge(alloc, options, &c_text, &v_text)
 }
 
-fn judge(alloc: Global, options: Options, c_text: &[u8], v_text: &[u8]) -> Answer {
+fn judge(alloc: Global, options: Options, c_text: &[u8], v_text: &[u8]) -> Answer
+    requires { length c_text.now ≤ 1048576 }
+    ensures { IsJudged options c_text.now v_text.now result }
+{
     let Some(program) = read_c(c_text) else {
         return Answer::refused(options.c_file, Lang::C, Kind::Unsupported);
     };

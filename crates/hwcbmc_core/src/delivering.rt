@@ -1,5 +1,8 @@
 //! An answer's text and status, on the stream where it belongs.
 
+ghost use Rattle.std.specs.Prelude.{◌≡◌, ◌⊎◌, IfOk, MatchResult, string_bytes};
+ghost use Rattle.hwcbmc_core.specs.Delivery.{IsSentAs, IsDelivered, message_of};
+
 use crate::answer::Answer;
 use io_edge::{Sink, write_all};
 use src_text::{Name, Refusal};
@@ -29,7 +32,14 @@ const STATUS_USAGE: u8 = 64;
 
 /// Writes the answer's text to its stream: verdicts to `out`, refusals to `err`. The status is the
 /// answer's own, but for a text that can't be made or written.
-pub fn deliver<O: Sink, E: Sink>(alloc: Global, answer: &Answer, out: &mut O, err: &mut E) -> u8 {
+pub fn deliver<O: Sink, E: Sink>(alloc: Global, answer: &Answer, out: &mut O, err: &mut E) -> u8
+    ensures { IsDelivered answer.now result
+            (record { written = O.written out.old; faults = O.faults out.old }) (record { written = O.written out.new; faults = O.faults out.new })
+            (record { written = E.written err.old; faults = E.faults err.old }) (record { written = E.written err.new; faults = E.faults err.new })
+        ⊎ IsDelivered Answer.Memory result
+            (record { written = O.written out.old; faults = O.faults out.old }) (record { written = O.written out.new; faults = O.faults out.new })
+            (record { written = E.written err.old; faults = E.faults err.old }) (record { written = E.written err.new; faults = E.faults err.new }) }
+{
     match answer {
         Answer::Usage => send(err, USAGE, STATUS_USAGE),
         Answer::ReadFault(file) => send_made(err, read_fault(alloc, file), STATUS_READ_FAULT),
@@ -43,7 +53,10 @@ pub fn deliver<O: Sink, E: Sink>(alloc: Global, answer: &Answer, out: &mut O, er
 }
 
 /// Writes a text, and answers the status, or that of a write fault.
-fn send<K: Sink>(sink: &mut K, text: &str, status: u8) -> u8 {
+fn send<K: Sink>(sink: &mut K, text: &str, status: u8) -> u8
+    ensures { IsSentAs text.now status result
+        (record { written = K.written sink.old; faults = K.faults sink.old }) (record { written = K.written sink.new; faults = K.faults sink.new }) }
+{
     match write_all(sink, text.as_bytes()) {
         Ok(()) => status,
         Err(_) => STATUS_WRITE_FAULT,
@@ -51,19 +64,29 @@ fn send<K: Sink>(sink: &mut K, text: &str, status: u8) -> u8 {
 }
 
 /// Writes a text that had to be made first.
-fn send_made<K: Sink>(sink: &mut K, text: Result<String, AllocError>, status: u8) -> u8 {
+fn send_made<K: Sink>(sink: &mut K, text: Result<String, AllocError>, status: u8) -> u8
+    ensures { MatchResult text
+        (λ text. IsSentAs (string_bytes text) status result
+            (record { written = K.written sink.old; faults = K.faults sink.old }) (record { written = K.written sink.new; faults = K.faults sink.new }))
+        (λ _. IsSentAs (message_of Answer.Memory) 9 result
+            (record { written = K.written sink.old; faults = K.faults sink.old }) (record { written = K.written sink.new; faults = K.faults sink.new })) }
+{
     match text {
         Ok(text) => send(sink, text.as_str(), status),
         Err(_) => send(sink, OUT_OF_MEMORY, STATUS_MEMORY),
     }
 }
 
-fn read_fault(alloc: Global, file: &Name) -> Result<String, AllocError> {
+fn read_fault(alloc: Global, file: &Name) -> Result<String, AllocError>
+    ensures { IfOk result (λ text. string_bytes text ≡ message_of (Answer.ReadFault file.now)) }
+{
     let file = file.text();
     format!(in alloc; "hwcbmc: {file}: read fault\n")
 }
 
-fn refused(alloc: Global, file: &Name, refusal: Refusal) -> Result<String, AllocError> {
+fn refused(alloc: Global, file: &Name, refusal: Refusal) -> Result<String, AllocError>
+    ensures { IfOk result (λ text. string_bytes text ≡ message_of (Answer.Refused file.now refusal)) }
+{
     let file = file.text();
     let line = refusal.place.line;
     let column = refusal.place.column;

@@ -1,7 +1,9 @@
 //! The words of the command, and the options that they ask for.
 
 ghost use Rattle.std.specs.Prelude.{◌≡◌, IfOk, IsErrOf, map, None, Some, string_bytes};
-ghost use Rattle.hwcbmc_core.specs.Words.{options_of, on_files, names_file, frames_in};
+ghost use Rattle.std.specs.Char.{is_ascii_digit};
+ghost use Rattle.std.specs.List.{list_all};
+ghost use Rattle.hwcbmc_core.specs.Words.{options_of, on_files, names_file, frames_in, is_numeral};
 
 use crate::options::{Options, UsageEnd};
 use joint_ir::Bounds;
@@ -27,7 +29,10 @@ pub fn options(alloc: Global, words: &[String]) -> Result<Options, UsageEnd>
 {
     match words {
         [c_file, v_file] => with_files(alloc, DEFAULT_FRAMES, c_file.as_str(), v_file.as_str()),
-        [option, frames, c_file, v_file] if option.as_str() == "--bound" => {
+        [option, frames, c_file, v_file] => {
+            if option.as_str() != "--bound" {
+                return Err(UsageEnd::Usage);
+            }
             match frames_of(frames.as_str()) {
                 Some(frames) => with_files(alloc, frames, c_file.as_str(), v_file.as_str()),
                 None => Err(UsageEnd::Usage),
@@ -68,11 +73,28 @@ fn is_file_name(word: &str) -> bool
 fn frames_of(word: &str) -> Option<u32>
     ensures { result ≡ frames_in word.now }
 {
-    if word.len() > MAX_DIGITS || !word.bytes().all(|b| b.is_ascii_digit()) {
+    if !is_number(word) {
         return None;
     }
     match word.parse::<u32>() {
-        Ok(frames) if frames <= MAX_FRAMES => Some(frames),
-        _ => None,
+        Ok(frames) => {
+            if frames > MAX_FRAMES {
+                return None;
+            }
+            Some(frames)
+        }
+        Err(_) => None,
     }
+}
+
+fn is_number(word: &str) -> bool
+    ensures { result ≡ is_numeral word.now }
+{
+    !word.is_empty() && word.len() <= MAX_DIGITS && are_digits(word.as_bytes())
+}
+
+fn are_digits(bytes: &[u8]) -> bool
+    ensures { result ≡ list_all is_ascii_digit bytes.now }
+{
+    bytes.iter().all(|byte| byte.is_ascii_digit())
 }
