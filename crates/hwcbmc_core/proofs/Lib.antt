@@ -5,3 +5,4 @@ pub mod SourceLemmas
 pub mod RunLemmas
 pub mod TraceLemmas
 pub mod WordLemmas
+pub mod AnswerLemmas
