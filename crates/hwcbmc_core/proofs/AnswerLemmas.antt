@@ -4,7 +4,6 @@ use Rattle.std.specs.Prelude.{IfSome, string_bytes}
 use Rattle.io_edge.specs.Faults.{Rose}
 use Rattle.io_edge.specs.declared.reading.ReadEnd.{ReadEnd}
 use Rattle.io_edge.specs.declared.reading.ReadEnd.TheVariants as ends
-use Rattle.src_text.specs.declared.refusal.Lang.{Lang}
 use Rattle.src_text.specs.declared.refusal.Lang.TheVariants.{C, V}
 use Rattle.hwcbmc_core.specs.declared.options.Options.{Options}
 use Rattle.hwcbmc_core.specs.declared.answer.Answer.{Answer}
@@ -12,7 +11,7 @@ use Rattle.hwcbmc_core.specs.declared.answer.Answer.TheVariants.{Usage, ReadFaul
 use Rattle.hwcbmc_core.specs.declared.sources.Program.{Program}
 use Rattle.hwcbmc_core.specs.declared.sources.Counter.{Counter}
 use Rattle.hwcbmc_core.specs.Sources.{IsProgram, IsCounter}
-use Rattle.hwcbmc_core.specs.Answers.{Reading, FitsLength, IsFaulty, IsTooLong, AreRead, IsFirstRefusal, c_too_long, v_too_long, c_unsupported, v_unsupported, unread, Judges, IsTraceOfBreak, IsJudged, IsRightFor}
+use Rattle.hwcbmc_core.specs.Answers.{Reading, FitsLength, AreRead, c_too_long, v_too_long, c_unsupported, v_unsupported, unread, Judges, IsTraceOfBreak, IsJudged, IsRightFor}
 use Rattle.hwcbmc_core.specs.Runs.{Property, CanBreak}
 
 -- what a reading that failed leaves
@@ -70,7 +69,7 @@ judges_told : (options : Options) (told : List ℕ → Option (List ℕ)) (c_tex
 judges_told options told c_text v_text Holds c_whole v_whole judged =
     let Q : List ℕ → List ℕ → Type 0 = λ c v. (program : Program) × (counter : Counter) × IsProgram c program × IsCounter v counter × Holds program counter in
     told_of (λ c. IfSome (told options.v_file) (λ v. Q c v)) (told options.c_file) c_text c_whole
-      (told_of (λ v. Q c_text v) (told options.v_file) v_text v_whole judged)
+    (told_of (λ v. Q c_text v) (told options.v_file) v_text v_whole judged)
 
 -- what is right for the texts is right for the files
 pub judged_right : (options : Options) (told : List ℕ → Option (List ℕ)) (before after : Reading) (c_text v_text : List ℕ) (answer : Answer)
@@ -79,12 +78,12 @@ pub judged_right : (options : Options) (told : List ℕ → Option (List ℕ)) (
 judged_right options told before after c_text v_text Usage read c_whole v_whole judged = judged
 judged_right options told before after c_text v_text (ReadFault file) read c_whole v_whole judged = absurd judged
 judged_right options told before after c_text v_text (Refused file refusal) read c_whole v_whole judged = elim judged [
-    inl c_refused ↦ rw (c_refused.0, c_refused.1)
+  | inl c_refused ↦ rw (c_refused.0, c_refused.1)
       (c_unsupported read (told_of (λ text. (program : Program) → ¬ (IsProgram text program)) (told options.c_file) c_text c_whole c_refused.2))
   | inr v_refused ↦ rw (v_refused.0, v_refused.1)
       (v_unsupported read (told_of (λ text. (program : Program) × IsProgram text program) (told options.c_file) c_text c_whole v_refused.2)
-        (told_of (λ text. (counter : Counter) → ¬ (IsCounter text counter)) (told options.v_file) v_text v_whole v_refused.3))
-  ]
+      (told_of (λ text. (counter : Counter) → ¬ (IsCounter text counter)) (told options.v_file) v_text v_whole v_refused.3))
+]
 judged_right options told before after c_text v_text (Failed trace) read c_whole v_whole judged =
     (read, judges_told options told c_text v_text (λ program counter. IsTraceOfBreak program counter options (string_bytes trace)) c_whole v_whole judged)
 judged_right options told before after c_text v_text Successful read c_whole v_whole judged =

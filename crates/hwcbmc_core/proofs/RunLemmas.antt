@@ -1,10 +1,9 @@
 -- How the runs of a pair end.
-use Rattle.std.proofs.Common.{◌≡◌, ◌≢◌, ℕ, ◌+◌, ◌*◌, ◌/◌, ◌%◌, ◌<◌, ◌≤◌, List, [], ◌∷◌, ◌++◌, zero, suc, Bool, true, false, eqb, cond, ap, sym, ◌∙◌, arith, refl, inl, inr, ◌⊎◌}
+use Rattle.std.proofs.Common.{◌≡◌, ℕ, ◌+◌, ◌*◌, ◌/◌, ◌%◌, ◌<◌, ◌≤◌, List, [], ◌∷◌, ◌++◌, zero, suc, Bool, true, false, eqb, cond, ap, sym, ◌∙◌, arith, refl, inl, inr}
 use Rattle.std.proofs.lemmas.Bool.{ne_eqb}
 use Rattle.std.proofs.lemmas.Bool.Decides.{eqb_tells}
-use Rattle.std.specs.Prelude.{replicate, ◌==◌, if◌then◌else◌}
-use Rattle.hwcbmc_core.specs.Runs
-use Rattle.hwcbmc_core.specs.Runs.{Statement, NextFrame, Assert, Outcome, Ended, OutOfFrames, Broken, Run, Property, assertion, statements, next_count, count_at, run_from, run_of, CanBreak}
+use Rattle.std.specs.Prelude.{replicate}
+use Rattle.hwcbmc_core.specs.Runs.{Statement, NextFrame, Assert, Ended, OutOfFrames, Broken, Run, Property, assertion, next_count, count_at, run_from, run_of, CanBreak}
 use Rattle.hwcbmc_core.specs.declared.sources.Program.{Program}
 use Rattle.hwcbmc_core.specs.declared.sources.Counter.{Counter}
 use Rattle.joint_ir.specs.declared.Bounds.{Bounds}
@@ -47,14 +46,14 @@ outcome-cond false x y = refl
 -- within the frames a run goes on to its assertion
 pub outcome_within : (program : Program) (counter : Counter) (bounds : Bounds) (left count edges : ℕ) → edges + left ≤ bounds.frames
     → (run_from program counter bounds (rest_of program left) (record { count = count; edges = edges })).outcome
-      ≡ cond (eqb (count_from counter count left) program.expected) Ended (Broken (assertion program))
+    ≡ cond (eqb (count_from counter count left) program.expected) Ended (Broken (assertion program))
 outcome_within program counter bounds zero count edges within = outcome-cond (eqb count program.expected) _ _
 outcome_within program counter bounds (suc left) count edges within =
     let next : ℕ = next_count counter count in
     let rest : Run = run_from program counter bounds (rest_of program left) (record { count = next; edges = edges + 1 }) in
     let unlike : eqb edges bounds.frames ≡ false = ne_eqb edges bounds.frames (λ is. omega arith) in
     outcome-cond (eqb edges bounds.frames) _ _ ∙ ap (λ b. cond b OutOfFrames rest.outcome) unlike
-      ∙ outcome_within program counter bounds left next (edges + 1) (omega arith)
+    ∙ outcome_within program counter bounds left next (edges + 1) (omega arith)
 
 -- past the frames it ends quietly
 pub outcome_past : (program : Program) (counter : Counter) (bounds : Bounds) (left count edges : ℕ) → edges ≤ bounds.frames → bounds.frames < edges + left
@@ -64,9 +63,9 @@ outcome_past program counter bounds (suc left) count edges within past =
     let next : ℕ = next_count counter count in
     let rest : Run = run_from program counter bounds (rest_of program left) (record { count = next; edges = edges + 1 }) in
     outcome-cond (eqb edges bounds.frames) _ _ ∙ elim (eqb_tells edges bounds.frames) [
-      inl last ↦ ap (λ b. cond b OutOfFrames rest.outcome) last.0
-    | inr more ↦ ap (λ b. cond b OutOfFrames rest.outcome) more.0
-        ∙ outcome_past program counter bounds left next (edges + 1) (let apart = more.1 in omega arith) (omega arith)
+      | inl last ↦ ap (λ b. cond b OutOfFrames rest.outcome) last.0
+      | inr more ↦ ap (λ b. cond b OutOfFrames rest.outcome) more.0
+          ∙ outcome_past program counter bounds left next (edges + 1) (let apart = more.1 in omega arith) (omega arith)
     ]
 
 ended_unbroken : (property : Property) → Ended ≡ Broken property → ⊥
@@ -81,8 +80,8 @@ pub breaks_all : (program : Program) (counter : Counter) (bounds : Bounds) → p
     → (choices : List ℕ) → (run_of program counter bounds choices).outcome ≡ Broken (assertion program)
 breaks_all program counter bounds within apart choices =
     outcome_within program counter bounds program.edges counter.first 0 (omega arith)
-      ∙ ap (λ n. cond (eqb n program.expected) Ended (Broken (assertion program))) (count_from_first counter program.edges)
-      ∙ ap (λ b. cond b Ended (Broken (assertion program))) apart
+    ∙ ap (λ n. cond (eqb n program.expected) Ended (Broken (assertion program))) (count_from_first counter program.edges)
+    ∙ ap (λ b. cond b Ended (Broken (assertion program))) apart
 
 -- The assertion holds in each run.
 pub breaks_none : (program : Program) (counter : Counter) (bounds : Bounds) → program.edges ≤ bounds.frames
@@ -90,8 +89,8 @@ pub breaks_none : (program : Program) (counter : Counter) (bounds : Bounds) → 
     → (property : Property) → ¬ (CanBreak program counter bounds property)
 breaks_none program counter bounds within same property (choices, broken) =
     ended_unbroken property (sym (outcome_within program counter bounds program.edges counter.first 0 (omega arith)
-      ∙ ap (λ n. cond (eqb n program.expected) Ended (Broken (assertion program))) (count_from_first counter program.edges)
-      ∙ ap (λ b. cond b Ended (Broken (assertion program))) same) ∙ broken)
+    ∙ ap (λ n. cond (eqb n program.expected) Ended (Broken (assertion program))) (count_from_first counter program.edges)
+    ∙ ap (λ b. cond b Ended (Broken (assertion program))) same) ∙ broken)
 
 -- Each run ends past the frames.
 pub breaks_none_past : (program : Program) (counter : Counter) (bounds : Bounds) → bounds.frames < program.edges

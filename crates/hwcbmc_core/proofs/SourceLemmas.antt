@@ -1,5 +1,5 @@
 -- The written forms, part by part.
-use Rattle.std.proofs.Common.{◌≡◌, ◌≢◌, ℕ, ◌+◌, ◌<◌, List, [], ◌∷◌, ◌++◌, zero, suc, get_or, ap, sym, ◌∙◌, arith, refl, add-one}
+use Rattle.std.proofs.Common.{◌≡◌, ◌≢◌, ℕ, ◌+◌, ◌<◌, List, ◌++◌, zero, suc, get_or, ap, sym, ◌∙◌, arith, refl, add-one}
 use Rattle.std.specs.Prelude.{decimal}
 use Rattle.std.proofs.lemmas.List.{append_cancel_left}
 use Rattle.std.proofs.lemmas.Fmt.{decimal_injective}
@@ -37,7 +37,7 @@ pub assert_is : (text r s : List ℕ) (edges : ℕ) (program : Program) → text
 assert_is text r s edges program front lines none p =
     let foot : List ℕ = assert_head ++ (decimal program.expected ++ c_tail) in
     edges_end edges program.edges s foot none (assert_no_line (decimal program.expected ++ c_tail))
-      (sym lines ∙ append_cancel_left c_head r (edge_lines program.edges ++ foot) (sym front ∙ p.text_is))
+    (sym lines ∙ append_cancel_left c_head r (edge_lines program.edges ++ foot) (sym front ∙ p.text_is))
 
 -- what follows the front of an assertion is its number
 pub expected_is : (s t : List ℕ) (expected : ℕ) → s ≡ assert_head ++ t → s ≡ assert_head ++ (decimal expected ++ c_tail) → t ≡ decimal expected ++ c_tail
@@ -73,7 +73,7 @@ pub middle_is : (text r s : List ℕ) (first : ℕ) (counter : Counter) → text
     → IsCounter text counter → (first ≡ counter.first) × (s ≡ v_middle ++ (decimal counter.step ++ v_tail))
 middle_is text r s first counter front number byte ends c =
     number_end first counter.first s (v_middle ++ (decimal counter.step ++ v_tail)) byte c.first_byte ends (v_middle_ends (decimal counter.step ++ v_tail))
-      (sym number ∙ first_is text r counter front c)
+    (sym number ∙ first_is text r counter front c)
 
 -- what follows the middle of a module is its step
 pub step_is : (s t : List ℕ) (step : ℕ) → s ≡ v_middle ++ t → s ≡ v_middle ++ (decimal step ++ v_tail) → t ≡ decimal step ++ v_tail

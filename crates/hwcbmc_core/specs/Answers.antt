@@ -16,7 +16,7 @@ use Rattle.hwcbmc_core.specs.declared.answer.Answer.{Answer}
 use Rattle.hwcbmc_core.specs.declared.answer.Answer.TheVariants.{Usage, ReadFault, Refused, Failed, Successful, Memory}
 use Rattle.hwcbmc_core.specs.Words.{options_of}
 use Rattle.hwcbmc_core.specs.Sources.{IsProgram, IsCounter}
-use Rattle.hwcbmc_core.specs.Runs.{Property, Broken, run_of, CanBreak, assertion}
+use Rattle.hwcbmc_core.specs.Runs.{Property, Broken, run_of, CanBreak}
 use Rattle.hwcbmc_core.specs.Trace.{trace_text}
 
 -- what the files tell of their reading: the name last started, the bytes taken of it and its faults, and all faults
@@ -64,22 +64,22 @@ pub record AreRead (options : Options) (told : List ℕ → Option (List ℕ)) (
 -- The first refusal of a file, in order: too long, C first; then not of its written form, C first.
 pub data IsFirstRefusal (options : Options) (told : List ℕ → Option (List ℕ)) (before after : Reading) : List ℕ → Refusal → Type 0 where
   c_too_long : IsTooLong options.c_file (told options.c_file) before after
-    → IsFirstRefusal options told before after options.c_file (at_beginning C TooLong)
+      → IsFirstRefusal options told before after options.c_file (at_beginning C TooLong)
   v_too_long : FitsLength (told options.c_file) → IsTooLong options.v_file (told options.v_file) before after
-    → IsFirstRefusal options told before after options.v_file (at_beginning V TooLong)
+      → IsFirstRefusal options told before after options.v_file (at_beginning V TooLong)
   c_unsupported : AreRead options told before after
-    → IfSome (told options.c_file) (λ text. (program : Program) → ¬ (IsProgram text program))
-    → IsFirstRefusal options told before after options.c_file (at_beginning C Unsupported)
+      → IfSome (told options.c_file) (λ text. (program : Program) → ¬ (IsProgram text program))
+      → IsFirstRefusal options told before after options.c_file (at_beginning C Unsupported)
   v_unsupported : AreRead options told before after
-    → IfSome (told options.c_file) (λ text. (program : Program) × IsProgram text program)
-    → IfSome (told options.v_file) (λ text. (counter : Counter) → ¬ (IsCounter text counter))
-    → IsFirstRefusal options told before after options.v_file (at_beginning V Unsupported)
+      → IfSome (told options.c_file) (λ text. (program : Program) × IsProgram text program)
+      → IfSome (told options.v_file) (λ text. (counter : Counter) → ¬ (IsCounter text counter))
+      → IsFirstRefusal options told before after options.v_file (at_beginning V Unsupported)
 
 -- What is said of a verdict holds for the programs of both texts, where these are told.
 abbrev pub Judges : Options → (List ℕ → Option (List ℕ)) → (Program → Counter → Type 0) → Type 0
 Judges options told Holds =
     IfSome (told options.c_file) (λ c_text. IfSome (told options.v_file) (λ v_text.
-      (program : Program) × (counter : Counter) × IsProgram c_text program × IsCounter v_text counter × Holds program counter))
+    (program : Program) × (counter : Counter) × IsProgram c_text program × IsCounter v_text counter × Holds program counter))
 
 -- The text is the trace of a run that breaks the property which it names.
 abbrev pub IsTraceOfBreak : Program → Counter → Options → List ℕ → Type 0
@@ -101,7 +101,7 @@ IsJudged options c_text v_text (ReadFault file) = ⊥
 IsJudged options c_text v_text (Refused file refusal) =
     ((file ≡ options.c_file) × (refusal ≡ at_beginning C Unsupported) × ((program : Program) → ¬ (IsProgram c_text program)))
     ⊎ ((file ≡ options.v_file) × (refusal ≡ at_beginning V Unsupported) × ((program : Program) × IsProgram c_text program)
-      × ((counter : Counter) → ¬ (IsCounter v_text counter)))
+    × ((counter : Counter) → ¬ (IsCounter v_text counter)))
 IsJudged options c_text v_text (Failed trace) =
     (program : Program) × (counter : Counter) × IsProgram c_text program × IsCounter v_text counter
     × IsTraceOfBreak program counter options (string_bytes trace)

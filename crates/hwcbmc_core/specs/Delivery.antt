@@ -21,7 +21,7 @@ message_of Usage = codes "hwcbmc: usage: hwcbmc [--module NAME] [--bound K] [--u
 message_of (ReadFault file) = codes "hwcbmc: " ++ (file ++ codes ": read fault\n")
 message_of (Refused file refusal) =
     codes "hwcbmc: " ++ (file ++ (codes ":" ++ (decimal refusal.place.line ++ (codes ":" ++ (decimal refusal.place.column
-      ++ (codes ": " ++ (text_of refusal.kind ++ codes "\n")))))))
+    ++ (codes ": " ++ (text_of refusal.kind ++ codes "\n")))))))
 message_of (Failed trace) = string_bytes trace
 message_of Successful = codes "VERIFICATION SUCCESSFUL\n"
 message_of Memory = codes "hwcbmc: out of memory\n"

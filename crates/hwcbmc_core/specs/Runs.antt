@@ -80,7 +80,7 @@ run_from program counter bounds [] state = record { outcome = Ended; events = []
 run_from program counter bounds (NextFrame ∷ rest) state =
     if state.edges == bounds.frames then record { outcome = OutOfFrames; events = [] }
     else after_event (Frame (state.edges + 1) (changed state.count (next_count counter state.count)))
-      (run_from program counter bounds rest (record { count = next_count counter state.count; edges = state.edges + 1 }))
+    (run_from program counter bounds rest (record { count = next_count counter state.count; edges = state.edges + 1 }))
 run_from program counter bounds (Assert expected ∷ rest) state =
     if state.count == expected then run_from program counter bounds rest state
     else record { outcome = Broken (assertion program); events = Broke (assertion program) ∷ [] }
@@ -89,7 +89,7 @@ run_from program counter bounds (Assert expected ∷ rest) state =
 abbrev pub run_of : Program → Counter → Bounds → List ℕ → Run
 run_of program counter bounds choices =
     after_event (Frame 0 (shown_count counter.first ∷ []))
-      (run_from program counter bounds (statements program) (record { count = counter.first; edges = 0 }))
+    (run_from program counter bounds (statements program) (record { count = counter.first; edges = 0 }))
 
 -- Some run breaks the property.
 abbrev pub CanBreak : Program → Counter → Bounds → Property → Type 0

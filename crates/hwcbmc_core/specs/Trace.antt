@@ -1,5 +1,5 @@
 -- The text of a trace: a line for each event, and one for each word that it shows.
-use Rattle.std.specs.Prelude.{ℕ, List, [], ◌∷◌, ◌++◌, codes, decimal}
+use Rattle.std.specs.Prelude.{ℕ, List, ◌++◌, codes, decimal}
 use Rattle.std.specs.List.{flat_map}
 use Rattle.hwcbmc_core.specs.Runs.{Shown, Property, Event, Frame, Broke}
 

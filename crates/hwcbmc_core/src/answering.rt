@@ -1,6 +1,6 @@
 //! The answer of the command, from its words and its files.
 
-ghost use Rattle.std.specs.Prelude.{◌≤◌, length, map, string_bytes};
+ghost use Rattle.std.specs.Prelude.{◌≡◌, ◌≤◌, length, map, string_bytes};
 ghost use Rattle.hwcbmc_core.specs.Answers.{IsRight, IsRightFor, IsJudged};
 
 use crate::answer::Answer;
@@ -15,7 +15,8 @@ use std::alloc::{AllocError, Global};
 
 /// The words, then the files, then the verdict: the first that stands in the way is the answer.
 pub fn answer_for<F: Files>(alloc: Global, words: &[String], files: &mut F) -> Answer
-    ensures { IsRight (map string_bytes words.now) (F.told files.old)
+    ensures told { F.told files.new ≡ F.told files.old }
+    ensures right { IsRight (map string_bytes words.now) (F.told files.old)
         (record { started = F.started files.old; taken = F.taken files.old; faults_since_start = F.faults_since_start files.old; faults = F.read_faults files.old })
         (record { started = F.started files.new; taken = F.taken files.new; faults_since_start = F.faults_since_start files.new; faults = F.read_faults files.new })
         result }
@@ -29,7 +30,8 @@ pub fn answer_for<F: Files>(alloc: Global, words: &[String], files: &mut F) -> A
 
 /// Reads the C file to its end, and then the Verilog file.
 fn read_files<F: Files>(alloc: Global, options: Options, files: &mut F) -> Answer
-    ensures { IsRightFor options (F.told files.old)
+    ensures told { F.told files.new ≡ F.told files.old }
+    ensures right { IsRightFor options (F.told files.old)
         (record { started = F.started files.old; taken = F.taken files.old; faults_since_start = F.faults_since_start files.old; faults = F.read_faults files.old })
         (record { started = F.started files.new; taken = F.taken files.new; faults_since_start = F.faults_since_start files.new; faults = F.read_faults files.new })
         result }

@@ -34,11 +34,11 @@ const STATUS_USAGE: u8 = 64;
 /// answer's own, but for a text that can't be made or written.
 pub fn deliver<O: Sink, E: Sink>(alloc: Global, answer: &Answer, out: &mut O, err: &mut E) -> u8
     ensures { IsDelivered answer.now result
-            (record { written = O.written out.old; faults = O.faults out.old }) (record { written = O.written out.new; faults = O.faults out.new })
-            (record { written = E.written err.old; faults = E.faults err.old }) (record { written = E.written err.new; faults = E.faults err.new })
+        (record { written = O.written out.old; faults = O.faults out.old }) (record { written = O.written out.new; faults = O.faults out.new })
+        (record { written = E.written err.old; faults = E.faults err.old }) (record { written = E.written err.new; faults = E.faults err.new })
         ⊎ IsDelivered Answer.Memory result
-            (record { written = O.written out.old; faults = O.faults out.old }) (record { written = O.written out.new; faults = O.faults out.new })
-            (record { written = E.written err.old; faults = E.faults err.old }) (record { written = E.written err.new; faults = E.faults err.new }) }
+        (record { written = O.written out.old; faults = O.faults out.old }) (record { written = O.written out.new; faults = O.faults out.new })
+        (record { written = E.written err.old; faults = E.faults err.old }) (record { written = E.written err.new; faults = E.faults err.new }) }
 {
     match answer {
         Answer::Usage => send(err, USAGE, STATUS_USAGE),
@@ -67,9 +67,9 @@ fn send<K: Sink>(sink: &mut K, text: &str, status: u8) -> u8
 fn send_made<K: Sink>(sink: &mut K, text: Result<String, AllocError>, status: u8) -> u8
     ensures { MatchResult text
         (λ text. IsSentAs (string_bytes text) status result
-            (record { written = K.written sink.old; faults = K.faults sink.old }) (record { written = K.written sink.new; faults = K.faults sink.new }))
+        (record { written = K.written sink.old; faults = K.faults sink.old }) (record { written = K.written sink.new; faults = K.faults sink.new }))
         (λ _. IsSentAs (message_of Answer.Memory) 9 result
-            (record { written = K.written sink.old; faults = K.faults sink.old }) (record { written = K.written sink.new; faults = K.faults sink.new })) }
+        (record { written = K.written sink.old; faults = K.faults sink.old }) (record { written = K.written sink.new; faults = K.faults sink.new })) }
 {
     match text {
         Ok(text) => send(sink, text.as_str(), status),

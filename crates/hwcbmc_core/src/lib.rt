@@ -3,6 +3,11 @@
 //! The modules stand in the order that the data meets them.
 #![tactic(auto)]
 
+ghost use Rattle.std.specs.Prelude.{◌≡◌, map, string_bytes};
+ghost use Rattle.hwcbmc_core.specs.declared.answer.Answer.{Answer};
+ghost use Rattle.hwcbmc_core.specs.Answers.{IsRight};
+ghost use Rattle.hwcbmc_core.specs.Delivery.{IsDelivered};
+
 // Words to options.
 mod options;
 mod words;
@@ -29,13 +34,30 @@ use io_edge::{Files, Sink};
 use std::alloc::Global;
 
 /// Runs the command: the words after the program's name, to a status.
+///
+/// The answer is right for the words and the files, and it is delivered: its status comes with its
+/// whole text on its own stream, and status 8 with a part of that text, where that stream failed.
 pub fn run<F: Files, O: Sink, E: Sink>(
     alloc: Global,
     words: &[String],
     files: &mut F,
     out: &mut O,
     err: &mut E,
-) -> u8 {
+) -> u8
+    ensures answered { (answer : Answer)
+        × IsRight (map string_bytes words.now) (F.told files.old)
+        (record { started = F.started files.old; taken = F.taken files.old; faults_since_start = F.faults_since_start files.old; faults = F.read_faults files.old })
+        (record { started = F.started files.new; taken = F.taken files.new; faults_since_start = F.faults_since_start files.new; faults = F.read_faults files.new })
+        answer
+        × IsDelivered answer result
+        (record { written = O.written out.old; faults = O.faults out.old })
+        (record { written = O.written out.new; faults = O.faults out.new })
+        (record { written = E.written err.old; faults = E.faults err.old })
+        (record { written = E.written err.new; faults = E.faults err.new }) }
+
+    // Reading changes no bytes under any name.
+    ensures told { F.told files.new ≡ F.told files.old }
+{
     let answer = answer_for(alloc, words, files);
     deliver(alloc, &answer, out, err)
 }

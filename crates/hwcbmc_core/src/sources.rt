@@ -19,13 +19,19 @@ pub struct Counter {
     pub step: u8,
 }
 
-const C_HEAD: &[u8] = b"#include <assert.h>\nstruct counter { unsigned char count; };\nextern struct counter counter;\nint main(void) {\n";
+const C_HEAD: &[u8] =
+    b"#include <assert.h>\nstruct counter { unsigned char count; };\nextern struct counter counter;\nint main(void) {\n";
+
 const EDGE_LINE: &[u8] = b"  next_timeframe();\n";
+
 const ASSERT: &[u8] = b"  assert(counter.count == ";
+
 const C_TAIL: &[u8] = b");\n  return 0;\n}\n";
 
 const V_HEAD: &[u8] = b"module counter(input clk, output reg [7:0] count); initial count = ";
+
 const V_MIDDLE: &[u8] = b"; always @(posedge clk) count <= count + ";
+
 const V_TAIL: &[u8] = b"; endmodule\n";
 
 /// The C program of this text, if it is of the form.

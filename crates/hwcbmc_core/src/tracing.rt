@@ -58,5 +58,8 @@ fn push_verdict(text: &mut String, line: usize) -> Result<(), AllocError>
     ensures { OnOk result (string_bytes text.new ≡ string_bytes text.old
         ++ (codes "broken main.assertion.1 at line " ++ (decimal line ++ codes "\nVERIFICATION FAILED\n"))) }
 {
-    write!(text, "broken main.assertion.1 at line {line}\nVERIFICATION FAILED\n")
+    write!(
+        text,
+        "broken main.assertion.1 at line {line}\nVERIFICATION FAILED\n"
+    )
 }

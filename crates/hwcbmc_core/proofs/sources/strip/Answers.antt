@@ -7,9 +7,9 @@ use Rattle.hwcbmc_core.proofs.sources.strip.Goals as goal
 pub returns-clause-found : goal.returns-clause-found
 returns-clause-found c =
     IfSome-from_match {X = Bor (List ℕ)} ((rest : List ℕ) → c.args.text.now ≢ c.args.front.now ++ rest) (λ x. c.args.text.now ≡ c.args.front.now ++ x.now) c.strip_prefix.result
-      (strip_prefix_is Decides-eqb c.args.text.now c.args.front.now c.strip_prefix.result c.strip_prefix.ensures.cases)
+    (strip_prefix_is Decides-eqb c.args.text.now c.args.front.now c.strip_prefix.result c.strip_prefix.ensures.cases)
 
 pub returns-clause-none : goal.returns-clause-none
 returns-clause-none c =
     IfNone-from_match {X = Bor (List ℕ)} ((rest : List ℕ) → c.args.text.now ≢ c.args.front.now ++ rest) (λ x. c.args.text.now ≡ c.args.front.now ++ x.now) c.strip_prefix.result
-      (strip_prefix_is Decides-eqb c.args.text.now c.args.front.now c.strip_prefix.result c.strip_prefix.ensures.cases)
+    (strip_prefix_is Decides-eqb c.args.text.now c.args.front.now c.strip_prefix.result c.strip_prefix.ensures.cases)

@@ -1,6 +1,5 @@
 use Rattle.std.proofs.Common.{◌∙◌, ap, sym, ◌++◌, length, arith}
-use Rattle.std.proofs.lemmas.List.{length-append}
-use Rattle.hwcbmc_core.specs.Sources.{edge_line, edge_lines}
+use Rattle.hwcbmc_core.specs.Sources.{edge_lines}
 use Rattle.hwcbmc_core.proofs.SourceLemmas.{edge_lines-push}
 use Rattle.hwcbmc_core.proofs.sources.strip_edges.Goals as goal
 
