@@ -6,3 +6,4 @@ pub mod RunLemmas
 pub mod TraceLemmas
 pub mod WordLemmas
 pub mod AnswerLemmas
+pub mod CauseLemmas

@@ -3,10 +3,14 @@
 //! The modules stand in the order that the data meets them.
 #![tactic(auto)]
 
-ghost use Rattle.std.specs.Prelude.{◌≡◌, map, string_bytes};
+ghost use Rattle.std.specs.Prelude.{◌≡◌, ◌≢◌, ◌⊎◌, ℕ, List, Some, None, map, string_bytes};
+ghost use Rattle.io_edge.specs.Faults.{Rose};
+ghost use Rattle.io_edge.specs.Sink.{Appends};
 ghost use Rattle.hwcbmc_core.specs.declared.answer.Answer.{Answer};
-ghost use Rattle.hwcbmc_core.specs.Answers.{IsRight};
+ghost use Rattle.hwcbmc_core.specs.Answers.{IsRight, IsTraceOfBreak, Judges};
 ghost use Rattle.hwcbmc_core.specs.Delivery.{IsDelivered};
+ghost use Rattle.hwcbmc_core.specs.Runs.{CanBreak};
+ghost use Rattle.hwcbmc_core.specs.Words.{options_of};
 
 // Words to options.
 mod options;
@@ -54,6 +58,19 @@ pub fn run<F: Files, O: Sink, E: Sink>(
         (record { written = O.written out.new; faults = O.faults out.new })
         (record { written = E.written err.old; faults = E.faults err.old })
         (record { written = E.written err.new; faults = E.faults err.new }) }
+
+    // What that says of each status.
+    ensures usage { result ≡ 64 → options_of (map string_bytes words.now) ≡ None }
+    ensures successful { result ≡ 0 → (options : _) × (options_of (map string_bytes words.now) ≡ Some options)
+        × Judges options (F.told files.old) (λ program counter. (property : _) → ¬ (CanBreak program counter options.bounds property)) }
+    ensures failed { result ≡ 10 → (options : _) × (trace : List ℕ) × (options_of (map string_bytes words.now) ≡ Some options)
+        × Judges options (F.told files.old) (λ program counter. IsTraceOfBreak program counter options trace)
+        × Appends (O.written out.old) (O.written out.new) trace }
+    ensures write_fault { result ≡ 8 → Rose (O.faults out.old) (O.faults out.new) ⊎ Rose (E.faults err.old) (E.faults err.new) }
+
+    // No fault is passed over.
+    ensures no_write_fault { result ≢ 8 → (O.faults out.new ≡ O.faults out.old) × (E.faults err.new ≡ E.faults err.old) }
+    ensures no_read_fault { result ≢ 7 → result ≢ 8 → result ≢ 9 → F.read_faults files.new ≡ F.read_faults files.old }
 
     // Reading changes no bytes under any name.
     ensures told { F.told files.new ≡ F.told files.old }
