@@ -11,7 +11,8 @@ use Rattle.hwcbmc_core.specs.declared.answer.Answer.TheVariants.{Usage, ReadFaul
 use Rattle.hwcbmc_core.specs.declared.sources.Program.{Program}
 use Rattle.hwcbmc_core.specs.declared.sources.Counter.{Counter}
 use Rattle.hwcbmc_core.specs.Sources.{IsProgram, IsCounter}
-use Rattle.hwcbmc_core.specs.Answers.{Reading, FitsLength, AreRead, c_too_long, v_too_long, c_unsupported, v_unsupported, unread, Judges, IsTraceOfBreak, IsJudged, IsRightFor}
+use Rattle.hwcbmc_core.proofs.SourceLemmas.{same_program, same_counter}
+use Rattle.hwcbmc_core.specs.Answers.{Reading, FitsLength, AreRead, c_too_long, v_too_long, c_unsupported, v_unsupported, unread, HoldsOf, Judges, IsTraceOfBreak, IsJudged, IsRightFor}
 use Rattle.hwcbmc_core.specs.Runs.{Property, CanBreak}
 
 -- what a reading that failed leaves
@@ -64,12 +65,22 @@ told_of P (Some bytes) text whole holds = subst P whole holds
 
 judges_told : (options : Options) (told : List ℕ → Option (List ℕ)) (c_text v_text : List ℕ) (Holds : Program → Counter → Type 0)
     → IfSome (told options.c_file) (λ bytes. c_text ≡ bytes) → IfSome (told options.v_file) (λ bytes. v_text ≡ bytes)
-    → (program : Program) × (counter : Counter) × IsProgram c_text program × IsCounter v_text counter × Holds program counter
-    → Judges options told Holds
+    → HoldsOf c_text v_text Holds → Judges options told Holds
 judges_told options told c_text v_text Holds c_whole v_whole judged =
-    let Q : List ℕ → List ℕ → Type 0 = λ c v. (program : Program) × (counter : Counter) × IsProgram c program × IsCounter v counter × Holds program counter in
-    told_of (λ c. IfSome (told options.v_file) (λ v. Q c v)) (told options.c_file) c_text c_whole
-    (told_of (λ v. Q c_text v) (told options.v_file) v_text v_whole judged)
+    told_of (λ c. IfSome (told options.v_file) (λ v. HoldsOf c v Holds)) (told options.c_file) c_text c_whole
+    (told_of (λ v. HoldsOf c_text v Holds) (told options.v_file) v_text v_whole judged)
+
+-- what holds of the pair that was read holds of each pair that the texts are
+pub holds_of : (c_text v_text : List ℕ) (program : Program) (counter : Counter) (Holds : Program → Counter → Type 0)
+    → IsProgram c_text program → IsCounter v_text counter → Holds program counter → HoldsOf c_text v_text Holds
+holds_of c_text v_text program counter Holds is_program is_counter holds = (
+  (program, is_program),
+  (counter, is_counter),
+  λ other_program other_counter other_is other_is_counter.
+      let P : Program → Type 0 = λ x. Holds x other_counter in
+      let Q : Counter → Type 0 = λ y. Holds program y in
+      subst P (same_program c_text program other_program is_program other_is) (subst Q (same_counter v_text counter other_counter is_counter other_is_counter) holds),
+)
 
 -- what is right for the texts is right for the files
 pub judged_right : (options : Options) (told : List ℕ → Option (List ℕ)) (before after : Reading) (c_text v_text : List ℕ) (answer : Answer)

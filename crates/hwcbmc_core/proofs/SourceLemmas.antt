@@ -87,3 +87,29 @@ pub v_source_is : (text r s t u : List ℕ) (first step : ℕ) → text ≡ v_he
     → t ≡ decimal step ++ u → u ≡ v_tail → text ≡ v_source first step
 v_source_is text r s t u first step head number middle number' tail =
     head ∙ ap (λ xs. v_head ++ xs) (number ∙ ap (λ xs. decimal first ++ xs) (middle ∙ ap (λ xs. v_middle ++ xs) (number' ∙ ap (λ xs. decimal step ++ xs) tail)))
+
+program_is : (p q : Program) → p.edges ≡ q.edges → p.expected ≡ q.expected → p ≡ q
+program_is p q edges expected =
+    ap (λ n. record { edges = n; expected = p.expected }) edges ∙ ap (λ n. record { edges = q.edges; expected = n }) expected
+
+-- A text is one program at most.
+pub same_program : (text : List ℕ) (p q : Program) → IsProgram text p → IsProgram text q → p ≡ q
+same_program text p q p_is q_is =
+    let foot : List ℕ = assert_head ++ (decimal p.expected ++ c_tail) in
+    let parts = assert_is text (edge_lines p.edges ++ foot) foot p.edges q p_is.text_is refl (assert_no_line (decimal p.expected ++ c_tail)) q_is in
+    let number = number_end p.expected q.expected c_tail c_tail p_is.byte q_is.byte c_tail_ends c_tail_ends
+    (append_cancel_left assert_head (decimal p.expected ++ c_tail) (decimal q.expected ++ c_tail) parts.1) in
+    program_is p q parts.0 number.0
+
+counter_is : (a b : Counter) → a.first ≡ b.first → a.step ≡ b.step → a ≡ b
+counter_is a b first step =
+    ap (λ n. record { first = n; step = a.step }) first ∙ ap (λ n. record { first = b.first; step = n }) step
+
+-- A text is one module at most.
+pub same_counter : (text : List ℕ) (a b : Counter) → IsCounter text a → IsCounter text b → a ≡ b
+same_counter text a b a_is b_is =
+    let foot : List ℕ = v_middle ++ (decimal a.step ++ v_tail) in
+    let parts = middle_is text (decimal a.first ++ foot) foot a.first b a_is.text_is refl a_is.first_byte (v_middle_ends (decimal a.step ++ v_tail)) b_is in
+    let number = number_end a.step b.step v_tail v_tail a_is.step_byte b_is.step_byte v_tail_ends v_tail_ends
+    (append_cancel_left v_middle (decimal a.step ++ v_tail) (decimal b.step ++ v_tail) parts.1) in
+    counter_is a b parts.0 number.0

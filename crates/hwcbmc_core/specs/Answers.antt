@@ -75,11 +75,16 @@ pub data IsFirstRefusal (options : Options) (told : List ℕ → Option (List �
       → IfSome (told options.v_file) (λ text. (counter : Counter) → ¬ (IsCounter text counter))
       → IsFirstRefusal options told before after options.v_file (at_beginning V Unsupported)
 
--- What is said of a verdict holds for the programs of both texts, where these are told.
+-- Both texts are of their written forms, and what is said holds of the pair that they are.
+abbrev pub HoldsOf : List ℕ → List ℕ → (Program → Counter → Type 0) → Type 0
+HoldsOf c_text v_text Holds =
+    ((program : Program) × IsProgram c_text program) × ((counter : Counter) × IsCounter v_text counter)
+    × ((program : Program) (counter : Counter) → IsProgram c_text program → IsCounter v_text counter → Holds program counter)
+
+-- The same of the two files, where their bytes are told.
 abbrev pub Judges : Options → (List ℕ → Option (List ℕ)) → (Program → Counter → Type 0) → Type 0
 Judges options told Holds =
-    IfSome (told options.c_file) (λ c_text. IfSome (told options.v_file) (λ v_text.
-    (program : Program) × (counter : Counter) × IsProgram c_text program × IsCounter v_text counter × Holds program counter))
+    IfSome (told options.c_file) (λ c_text. IfSome (told options.v_file) (λ v_text. HoldsOf c_text v_text Holds))
 
 -- The text is the trace of a run that breaks the property which it names.
 abbrev pub IsTraceOfBreak : Program → Counter → Options → List ℕ → Type 0
@@ -103,11 +108,9 @@ IsJudged options c_text v_text (Refused file refusal) =
     ⊎ ((file ≡ options.v_file) × (refusal ≡ at_beginning V Unsupported) × ((program : Program) × IsProgram c_text program)
     × ((counter : Counter) → ¬ (IsCounter v_text counter)))
 IsJudged options c_text v_text (Failed trace) =
-    (program : Program) × (counter : Counter) × IsProgram c_text program × IsCounter v_text counter
-    × IsTraceOfBreak program counter options (string_bytes trace)
+    HoldsOf c_text v_text (λ program counter. IsTraceOfBreak program counter options (string_bytes trace))
 IsJudged options c_text v_text Successful =
-    (program : Program) × (counter : Counter) × IsProgram c_text program × IsCounter v_text counter
-    × ((property : Property) → ¬ (CanBreak program counter options.bounds property))
+    HoldsOf c_text v_text (λ program counter. (property : Property) → ¬ (CanBreak program counter options.bounds property))
 IsJudged options c_text v_text Memory = Unit {0}
 
 -- The answer is right for words that have these options.
