@@ -1,8 +1,11 @@
 //! Files in memory, whose calls fail where they are told to.
 
-ghost use Rattle.std.specs.Prelude.{◌≡◌, ◌≤◌, OnOk, OnErr};
+ghost use Rattle.std.specs.Prelude.{◌≡◌, ℕ, ◌+◌, ◌-◌, ◌^◌, ◌<◌, ◌≤◌, ◌↔◌, List, [], ◌∷◌, ◌++◌, true, false, length, take, min, None, Some, IfOk, IsOk, OnOk, OnErr, IsSome, IfSome};
 ghost use Rattle.std.specs.Option.{option_copied};
-ghost use Rattle.io_edge.specs.MemFiles.{text_under, IsPut};
+ghost use Rattle.io_edge.specs.Calls.{fails_next};
+ghost use Rattle.io_edge.specs.Faults.{Rose};
+ghost use Rattle.io_edge.specs.Files.{started_file, IsNextPiece};
+ghost use Rattle.io_edge.specs.MemFiles.{text_under, IsPut, open_text};
 
 use crate::calls::Calls;
 use crate::files::{Failed, Files};
@@ -48,6 +51,10 @@ impl MemFiles {
     /// No files yet. Calls move at most `piece` bytes.
     pub fn new(alloc: Global, piece: usize) -> MemFiles
         requires { 1 ≤ piece }
+        ensures none { (name : List ℕ) → text_under result.files.items name ≡ None }
+        ensures none_started { result.started ≡ None }
+        ensures piece { result.piece.bytes ≡ piece }
+        ensures calls { (result.calls.made ≡ 0) × (result.calls.failing.items ≡ []) }
     {
         MemFiles {
             files: Vec::new(alloc),
@@ -75,7 +82,11 @@ impl MemFiles {
     }
 
     /// Lets the call of `start` or `read` of that number fail. They are numbered from 1, together.
-    pub fn fail_at(&mut self, call: u64) -> Result<(), AllocError> {
+    pub fn fail_at(&mut self, call: u64) -> Result<(), AllocError>
+        ensures listed { OnOk result (self.new.calls.failing.items ≡ self.old.calls.failing.items ++ call ∷ []) }
+        ensures made { self.new.calls.made ≡ self.old.calls.made }
+        ensures files { self.new.files ≡ self.old.files }
+    {
         self.calls.fail_at(call)
     }
 }
@@ -91,7 +102,18 @@ impl Files for MemFiles {
 
     ghost faults_since_start = { λ m. m.faults.since_start };
 
-    fn start(&mut self, name: Name) -> Result<(), Failed> {
+    fn start(&mut self, name: Name) -> Result<(), Failed>
+        // It fails exactly where the call is listed or the name is missing.
+        ensures exact { IsOk result ↔ ((fails_next self.old.calls ≡ false) × IsSome (text_under self.old.files.items name)) }
+
+        ensures started { self.new.started ≡ Some name }
+        ensures taken { self.new.taken ≡ 0 }
+        ensures told { self.new.files ≡ self.old.files }
+        ensures same_count { OnOk result (self.new.faults.total ≡ self.old.faults.total) }
+        ensures no_fault { OnOk result (self.new.faults.since_start ≡ 0) }
+        ensures rose { OnErr result (Rose self.old.faults.total self.new.faults.total) }
+        ensures fault { OnErr result (0 < self.new.faults.since_start) }
+    {
         let is_failing = self.calls.is_failing();
         self.is_open = !is_failing && find(&self.files, name.text()).is_some();
         self.started = Some(name);
@@ -103,7 +125,29 @@ impl Files for MemFiles {
         Ok(())
     }
 
-    fn read(&mut self, buf: &mut [u8]) -> Result<usize, Failed> {
+    fn read(&mut self, buf: &mut [u8]) -> Result<usize, Failed>
+        requires room { 0 < length buf.old }
+        requires not_many { self.old.taken < 2 ^ 63 }
+
+        // It fails exactly where the call is listed or no file is started.
+        ensures exact { IsOk result ↔ ((fails_next self.old.calls ≡ false) × IsSome (open_text self.old)) }
+
+        // It moves as many bytes as the piece, the buffer and what is left allow.
+        ensures moved { IfOk result (λ n. IfSome (open_text self.old) (λ text.
+            n ≡ min (min self.old.piece.bytes (length buf.old)) (length text - self.old.taken))) }
+
+        ensures within { IfOk result (λ n. n ≤ length buf.new) }
+        ensures taken { IfOk result (λ n. self.new.taken ≡ self.old.taken + n) }
+        ensures bytes { IfOk result (λ n. IfSome (started_file (text_under self.old.files.items) self.old.started) (λ bytes.
+            IsNextPiece bytes self.old.taken n (take n buf.new))) }
+        ensures started { self.new.started ≡ self.old.started }
+        ensures told { self.new.files ≡ self.old.files }
+        ensures same_count { OnOk result (self.new.faults.total ≡ self.old.faults.total) }
+        ensures same_since { OnOk result (self.new.faults.since_start ≡ self.old.faults.since_start) }
+        ensures rose { OnErr result (Rose self.old.faults.total self.new.faults.total) }
+        ensures fault { OnErr result (0 < self.new.faults.since_start) }
+        ensures none_taken { OnErr result (self.new.taken ≡ self.old.taken) }
+    {
         let is_failing = self.calls.is_failing();
         let Some(name) = &self.started else {
             return Err(self.faults.count());

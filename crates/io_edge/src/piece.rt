@@ -1,6 +1,6 @@
 //! How much a call in memory moves.
 
-ghost use Rattle.std.specs.Prelude.{◌≡◌, ◌+◌, ◌<◌, ◌≤◌, length, take, max};
+ghost use Rattle.std.specs.Prelude.{◌≡◌, ◌+◌, ◌<◌, ◌≤◌, length, take, max, min, ◌-◌};
 ghost use Rattle.io_edge.specs.Files.{IsNextPiece};
 
 /// How many bytes a call moves at most.
@@ -16,6 +16,7 @@ impl Piece {
         requires { 0 < length buf.old }
         ensures within { result ≤ length buf.new }
         ensures next { IsNextPiece text.now taken result (take result buf.new) }
+        ensures moved { result ≡ min (min self.bytes (length buf.old)) (length text.now - taken) }
         ensures fits { taken + result ≤ max taken (length text.now) }
     {
         if taken >= text.len() {

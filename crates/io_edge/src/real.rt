@@ -1,7 +1,7 @@
 //! The trusted edge: the files and streams of the system. They tell no content. Every error of the
 //! system counts as a fault.
 
-ghost use Rattle.std.specs.Prelude.{None};
+ghost use Rattle.std.specs.Prelude.{◌≡◌, None};
 
 use crate::files::{Failed, Files};
 use crate::read_faults::ReadFaults;
@@ -21,7 +21,11 @@ pub struct RealFiles<R: rt::Files> {
 }
 
 impl<R: rt::Files + Drop> RealFiles<R> {
-    pub fn new(runtime: R) -> RealFiles<R> {
+    /// No file is started yet.
+    pub fn new(runtime: R) -> RealFiles<R>
+        ensures none_started { result.started ≡ None }
+        ensures no_fault { result.faults.total ≡ 0 }
+    {
         RealFiles {
             runtime,
             file: None,
@@ -75,7 +79,9 @@ pub struct RealSink<W: Write> {
 }
 
 impl<W: Write + Drop> RealSink<W> {
-    pub fn new(stream: W) -> RealSink<W> {
+    pub fn new(stream: W) -> RealSink<W>
+        ensures no_fault { result.faults ≡ 0 }
+    {
         RealSink { stream, faults: 0 }
     }
 }
