@@ -2,7 +2,7 @@
 
 ghost use Rattle.std.specs.Prelude.{◌≡◌, ◌+◌, ◌*◌, ◌%◌, ◌^◌, ◌<◌, ◌≤◌, true, false, pos, neg_ℤ, nat_eq, nat_lt, count_ones, unsigned_abs};
 ghost use Rattle.bits_core.specs.Word.{bit as bit_of, modulo, resized, read_signed};
-ghost use Rattle.bits_core.specs.Ops.{quotient, remainder, less, value1, value2, width1 as width1_of, width2 as width2_of};
+ghost use Rattle.bits_core.specs.Ops.{quotient, remainder, less, value1, value2};
 ghost use Rattle.bits_core.specs.declared.op.Op2.TheVariants.{Add, Sub, Mul, Shl, ShrU, ShrS};
 
 use crate::op::{Op1, Op2};
@@ -277,34 +277,6 @@ pub fn apply2(op: Op2, w: u8, x: u128, y: u128) -> u128
         Op2::Eq => bit(x == y),
         Op2::LtU => bit(x < y),
         Op2::LtS => bit(is_less_signed(w, x, y)),
-    }
-}
-
-/// The width of what an operation on a word gives.
-pub fn width1(op: Op1, w: u8) -> u8
-    requires some { 0 < w }
-    requires within { w ≤ 128 }
-    ensures width { result ≡ width1_of op w }
-    ensures some { 0 < result }
-    ensures within { result ≤ 128 }
-{
-    match op {
-        Op1::Not | Op1::Neg => w,
-        Op1::RedAnd | Op1::RedOr | Op1::RedXor => 1,
-    }
-}
-
-/// The width of what an operation on two words gives.
-pub fn width2(op: Op2, w: u8) -> u8
-    requires some { 0 < w }
-    requires within { w ≤ 128 }
-    ensures width { result ≡ width2_of op w }
-    ensures some { 0 < result }
-    ensures within { result ≤ 128 }
-{
-    match op {
-        Op2::Eq | Op2::LtU | Op2::LtS => 1,
-        _ => w,
     }
 }
 

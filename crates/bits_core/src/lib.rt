@@ -5,10 +5,11 @@
 #![tactic(auto)]
 
 mod arithmetic;
-
 mod op;
-
 mod word;
 
 pub use op::{Op1, Op2};
 pub use word::Word;
+
+#[cfg(test)]
+mod tests;

@@ -1,5 +1,8 @@
 // The operations on words.
 
+ghost use Rattle.std.specs.Prelude.{◌≡◌};
+ghost use Rattle.bits_core.specs.Ops.{width1, width2};
+
 /// Operations on one word.
 #[derive(Clone, Copy, Debug, PartialEq, Eq)]
 pub enum Op1 {
@@ -44,4 +47,28 @@ pub enum Op2 {
     LtU,
     /// 1 where the first is less, as signed numbers.
     LtS,
+}
+
+impl Op1 {
+    /// The width of the result, by that of the operand.
+    pub fn width(self, operand: u8) -> u8
+        ensures { result ≡ width1 self operand }
+    {
+        match self {
+            Op1::Not | Op1::Neg => operand,
+            Op1::RedAnd | Op1::RedOr | Op1::RedXor => 1,
+        }
+    }
+}
+
+impl Op2 {
+    /// The width of the result, by that of the operands.
+    pub fn width(self, operands: u8) -> u8
+        ensures { result ≡ width2 self operands }
+    {
+        match self {
+            Op2::Eq | Op2::LtU | Op2::LtS => 1,
+            _ => operands,
+        }
+    }
 }

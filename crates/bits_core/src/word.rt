@@ -46,7 +46,8 @@ impl Word {
     pub fn from_low_bits(width: u8, number: u128) -> Word
         requires some { 0 < width }
         requires within { width ≤ 128 }
-        ensures { result ≡ word width (number % 2 ^ width) }
+        ensures value { result ≡ word width (number % 2 ^ width) }
+        ensures proper { IsWord result }
     {
         let value = arithmetic::low(width, number);
         Word { width, value }
@@ -114,7 +115,7 @@ impl Word {
     pub fn apply1(self, op: Op1) -> Word
         ensures { result ≡ word1 op self }
     {
-        let width = arithmetic::width1(op, self.width);
+        let width = op.width(self.width);
         let value = arithmetic::apply1(op, self.width, self.value);
         Word { width, value }
     }
@@ -124,7 +125,7 @@ impl Word {
         requires { right.width ≡ self.width }
         ensures { result ≡ word2 op self right }
     {
-        let width = arithmetic::width2(op, self.width);
+        let width = op.width(self.width);
         let value = arithmetic::apply2(op, self.width, self.value, right.value);
         Word { width, value }
     }

@@ -1,0 +1,4 @@
+pub mod Graph
+pub mod Meaning
+pub mod Gates
+pub mod Guarded
