@@ -6,3 +6,5 @@ pub mod Effects
 pub mod Steps
 pub mod Statements
 pub mod Runs
+pub mod Weights
+pub mod WellFormed
