@@ -1,6 +1,6 @@
 // The operations on words.
 
-ghost use Rattle.std.specs.Prelude.{◌≡◌};
+ghost use Rattle.std.specs.Prelude.{◌≡◌, ◌<◌, ◌≤◌};
 ghost use Rattle.bits_core.specs.Ops.{width1, width2};
 
 /// Operations on one word.
@@ -52,7 +52,9 @@ pub enum Op2 {
 impl Op1 {
     /// The width of the result, by that of the operand.
     pub fn width(self, operand: u8) -> u8
-        ensures { result ≡ width1 self operand }
+        ensures width { result ≡ width1 self operand }
+        ensures some { 0 < operand → 0 < result }
+        ensures within { operand ≤ 128 → result ≤ 128 }
     {
         match self {
             Op1::Not | Op1::Neg => operand,
@@ -64,7 +66,9 @@ impl Op1 {
 impl Op2 {
     /// The width of the result, by that of the operands.
     pub fn width(self, operands: u8) -> u8
-        ensures { result ≡ width2 self operands }
+        ensures width { result ≡ width2 self operands }
+        ensures some { 0 < operands → 0 < result }
+        ensures within { operands ≤ 128 → result ≤ 128 }
     {
         match self {
             Op2::Eq | Op2::LtU | Op2::LtS => 1,

@@ -9,4 +9,4 @@ invariant_of-result c =
     let r : c.right.inside.width ≡ c.args.right.width = ap (λ (w : Word). w.width) c.right.view_is in
     let e : c.right.inside.width ≡ c.self.inside.width = r ∙ c.requires ∙ sym l in
     let h = word2_is c.args.op (word c.self.inside.width c.self.inside.value) (word c.right.inside.width c.right.inside.value) c.self.invariant c.right.invariant e in
-    rw (c.width-width.ensures, c.apply2-value.ensures) h
+    rw (c.width-width.ensures.width, c.apply2-value.ensures) h
