@@ -1,43 +1,39 @@
 -- The definitions on worked programs: each equation holds by computing.
-use Rattle.std.specs.Prelude.{◌≡◌, ℕ, List, [], ◌∷◌, Option, Some, None, true, false, refl}
-use Rattle.std.specs.Prelude.{ℤ, pos, negsuc}
+use Rattle.std.specs.Prelude.{◌≡◌, ◌+◌, ◌*◌, ℕ, List, [], ◌∷◌, Some, None, true, false, refl}
+use Rattle.std.specs.Prelude.{pos, negsuc}
 use Rattle.bits_core.specs.Word.{word}
 use Rattle.bits_core.specs.declared.op.Op2.TheVariants.{Add as Plus}
 use Rattle.word_eqs.specs.declared.term.TermNode.TheVariants as term
-use Rattle.word_eqs.specs.declared.term.Term.{Term}
-use Rattle.word_eqs.specs.Graph.{Graph}
 use denote.Hole.Carrier.{hidden}
 use Rattle.joint_ir.specs.declared.expr.TNode.TheBlock.{hidden-the_row-TExpr-0}
 use Rattle.joint_ir.specs.declared.stmt.SNode.TheBlock.{hidden-the_row-TStmt-0}
 use Rattle.src_text.specs.declared.refusal.Place.{Place}
 use Rattle.joint_ir.specs.declared.bounds.Bounds.{Bounds}
-use Rattle.joint_ir.specs.declared.bounds.Limit.{Limit}
 use Rattle.joint_ir.specs.declared.ctype.IntType.{IntType}
-use Rattle.joint_ir.specs.declared.event.Event.TheVariants.{Frame, Driven, Stored, Broke}
-use Rattle.joint_ir.specs.declared.event.Outcome.TheVariants.{Ended, Cut, OutOfFrames, Broken}
+use Rattle.joint_ir.specs.declared.event.Event.TheVariants.{Frame, Stored, Broke}
+use Rattle.joint_ir.specs.declared.event.Outcome.TheVariants.{Ended, OutOfFrames, Broken}
 use Rattle.joint_ir.specs.declared.expr.BinaryOp.TheVariants as binary
-use Rattle.joint_ir.specs.declared.expr.Slot.TheVariants.{Global, Local, Member}
+use Rattle.joint_ir.specs.declared.expr.Slot.TheVariants.{Local, Member}
 use Rattle.joint_ir.specs.declared.expr.TExpr.{TExpr}
 use Rattle.joint_ir.specs.declared.expr.TNode.{TNode, Const, Read, Binary, Convert}
 use Rattle.joint_ir.specs.declared.module.FlatModule.{FlatModule}
 use Rattle.joint_ir.specs.declared.module.Role.TheVariants.{Clock, Register}
 use Rattle.joint_ir.specs.declared.pair.Pair.{Pair}
-use Rattle.joint_ir.specs.declared.program.CProgram.{CProgram}
-use Rattle.joint_ir.specs.declared.program.Function.{Function}
-use Rattle.joint_ir.specs.declared.program.Prop.{Prop}
 use Rattle.joint_ir.specs.declared.program.PropId.{PropId}
 use Rattle.joint_ir.specs.declared.program.PropKind.TheVariants as kind
 use Rattle.joint_ir.specs.declared.program.Var.{Var}
-use Rattle.joint_ir.specs.declared.stmt.SNode.{SNode, Block, Declare, Store, Loop, Assert, NextFrame, Return, end_of-TStmt, more_of-TStmt, Some'}
-use Rattle.joint_ir.specs.declared.stmt.TInit.TheVariants.{Free, Values}
-use Rattle.joint_ir.specs.declared.stmt.TLoop.{TLoop, TLoop'}
+use Rattle.joint_ir.specs.declared.stmt.SNode.{SNode, Block, Declare, Store, Loop, Assert, NextFrame, end_of-TStmt, more_of-TStmt, Some'}
+use Rattle.joint_ir.specs.declared.stmt.TInit.TheVariants.{Values}
+use Rattle.joint_ir.specs.declared.stmt.TLoop.{TLoop'}
 use Rattle.joint_ir.specs.declared.stmt.TStmt.{TStmt}
 use Rattle.joint_ir.specs.declared.stmt.TTarget.{TTarget}
 use Rattle.joint_ir.specs.declared.event.Event.{Event}
 use Rattle.joint_ir.specs.Types.{int, converted}
-use Rattle.joint_ir.specs.Values.{Answer, Value, Fault, binary_value}
-use Rattle.joint_ir.specs.Effects.{Effect, Stops}
+use Rattle.joint_ir.specs.Values.{Value, Fault, binary_value}
+use Rattle.joint_ir.specs.Effects.{Stops}
+use Rattle.joint_ir.specs.Machine.{Over, IsBroken, steps, first_configuration}
 use Rattle.joint_ir.specs.Runs.{run_of}
+use Rattle.joint_ir.specs.Weights.{weight_of}
 
 abbrev byte : IntType
 byte = record { bits = 8; signed = false; truth = false }
@@ -218,3 +214,18 @@ and_not_to_three = refl
 the_frames_end : run_of (counting 3) (bounds_of 1 1) [] ≡ Stops OutOfFrames (frame 0 ∷ frame 1 ∷ []) []
 unfolding hidden-the_row-TStmt-0 hidden-the_row-TExpr-0 hidden
 the_frames_end = refl
+
+-- the machine without limits makes all turns, and fails where the run breaks
+all_turns_end : steps summing (bounds_of 0 10) 40 (first_configuration summing []) ≡ Over
+unfolding hidden-the_row-TStmt-0 hidden-the_row-TExpr-0 hidden
+all_turns_end = refl
+
+the_assertion_fails : steps (counting 3) (bounds_of 0 2) 4 (first_configuration (counting 3) []) ≡ IsBroken p1
+unfolding hidden-the_row-TStmt-0 hidden-the_row-TExpr-0 hidden
+the_assertion_fails = refl
+
+-- 64, 8 bits of a register, 8 of the mirror, two frames of 304, and an assertion: its conversion 8, its constant 4,
+-- its comparison 132, the result's 32 bits and 16; and 16 of the block
+a_weight : weight_of (counting 2) (bounds_of 1 2) ≡ 64 + 8 + 8 + 2 * 304 + (8 + 4 + 132 + 32 + 16) + 16
+unfolding hidden-the_row-TStmt-0 hidden-the_row-TExpr-0 hidden
+a_weight = refl

@@ -6,7 +6,7 @@ use Rattle.joint_ir.specs.declared.event.Outcome.{Outcome}
 use Rattle.joint_ir.specs.declared.event.Outcome.TheVariants.{Broken}
 use Rattle.joint_ir.specs.declared.expr.TExpr.{TExpr}
 use Rattle.joint_ir.specs.declared.program.PropId.{PropId}
-use Rattle.joint_ir.specs.Values.{Answer, Value, Fault, Rows, value_of, is_zero}
+use Rattle.joint_ir.specs.Values.{Answer, Value, Fault, Rows, value_of}
 use Rattle.joint_ir.specs.States.{JointState}
 
 -- which way a statement that came to its end goes on

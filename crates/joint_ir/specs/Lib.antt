@@ -7,4 +7,6 @@ pub mod Steps
 pub mod Statements
 pub mod Runs
 pub mod Weights
+pub mod Weighed
 pub mod WellFormed
+pub mod Machine

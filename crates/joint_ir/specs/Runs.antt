@@ -1,15 +1,14 @@
 -- A joint run, as a function of the choices that it draws.
-use Rattle.std.specs.Prelude.{◌≡◌, ℕ, zero, suc, ◌+◌, List, [], ◌∷◌, ◌++◌, slice_get, Option, Some, None, pos}
+use Rattle.std.specs.Prelude.{◌≡◌, ℕ, List, [], ◌∷◌, slice_get, Option, Some, None, pos}
 use Rattle.joint_ir.specs.declared.bounds.Bounds.{Bounds}
 use Rattle.joint_ir.specs.declared.event.Event.TheVariants.{Frame}
 use Rattle.joint_ir.specs.declared.event.Outcome.TheVariants.{Ended, Broken}
-use Rattle.joint_ir.specs.declared.module.FlatModule.{FlatModule}
 use Rattle.joint_ir.specs.declared.module.Role.TheVariants.{Input, Register}
 use Rattle.joint_ir.specs.declared.pair.Pair.{Pair}
 use Rattle.joint_ir.specs.declared.program.Function.{Function}
 use Rattle.joint_ir.specs.declared.program.PropId.{PropId}
 use Rattle.joint_ir.specs.declared.stmt.TStmt.{TStmt}
-use Rattle.joint_ir.specs.States.{JointState, first_rows}
+use Rattle.joint_ir.specs.States.{first_rows}
 use Rattle.joint_ir.specs.Views.{widths_of, site_widths, filled, shown}
 use Rattle.joint_ir.specs.Effects.{Effect, Goes, Stops, TooFew, Next, Onward, then_do, draw, draw_all}
 use Rattle.joint_ir.specs.Steps.{Setting, settled_view}
@@ -51,7 +50,7 @@ abbrev pub main_effect : Pair → Bounds → Option TStmt → Onward
 main_effect p b None s c = Goes Next s [] c
 main_effect p b (Some body) s c =
     let k : Setting = record { pair = p; bounds = b; here = p.program.main } in
-    after k (calls_at k 31 (p.program.main ∷ [])) body.place body.node s c
+    after k (calls_at p b 31 (p.program.main ∷ [])) body.place body.node s c
 
 -- a run ends where `main` has
 abbrev pub ended : Effect → Effect

@@ -1,18 +1,20 @@
 -- What a statement does, by recursion on its tree, on the turns left of a loop, and on the activations left (C99 6.8).
-use Rattle.std.specs.Prelude.{ℕ, zero, suc, ◌+◌, Bool, true, false, if◌then◌else◌, nat_lt, eqb, List, [], ◌∷◌, ◌++◌, slice_get, count_by}
+use Rattle.std.specs.Prelude.{ℕ, zero, suc, ◌+◌, bytes_eq, Bool, true, false, if◌then◌else◌, nat_lt, eqb, List, [], ◌∷◌, ◌++◌, slice_get, count_by}
 use Rattle.std.specs.Prelude.{ℤ, pos, Option, Some, None, option_map}
 use Rattle.std.specs.Ordering.{int_eq}
-use Rattle.std.specs.List.{position, list_any}
+use Rattle.std.specs.List.{position_from, list_any}
+use Rattle.joint_ir.specs.declared.bounds.Bounds.{Bounds}
 use Rattle.joint_ir.specs.declared.ctype.IntType.{IntType}
 use Rattle.joint_ir.specs.declared.event.Outcome.TheVariants.{Cut}
 use Rattle.joint_ir.specs.declared.expr.Slot.TheVariants.{Local}
 use Rattle.joint_ir.specs.declared.expr.TExpr.{TExpr}
+use Rattle.joint_ir.specs.declared.pair.Pair.{Pair}
 use Rattle.joint_ir.specs.declared.program.CProgram.{CProgram}
 use Rattle.joint_ir.specs.declared.program.Function.{Function}
 use Rattle.joint_ir.specs.declared.program.Prop.{Prop}
 use Rattle.joint_ir.specs.declared.program.PropId.{PropId}
 use Rattle.joint_ir.specs.declared.program.PropKind.{PropKind}
-use Rattle.joint_ir.specs.declared.program.PropKind.TheVariants.{Assertion, Overflow, Division, Shift, Bounds, Unwind, Recursion, Frame}
+use Rattle.joint_ir.specs.declared.program.PropKind.TheVariants as kind
 use Rattle.joint_ir.specs.declared.stmt.Group.{Group, Group'}
 use Rattle.joint_ir.specs.declared.stmt.Label.{Label}
 use Rattle.joint_ir.specs.declared.stmt.Label.TheVariants.{Case, Default}
@@ -122,19 +124,14 @@ abbrev mutual
   after_group k calls (Group' labels _ row) s c = after_row k calls row s c
 
 abbrev pub is_recursion : PropKind → Bool
-is_recursion Assertion = false
-is_recursion Overflow = false
-is_recursion Division = false
-is_recursion Shift = false
-is_recursion Bounds = false
-is_recursion Unwind = false
-is_recursion Recursion = true
-is_recursion Frame = false
-
-abbrev pub same_text : List ℕ → List ℕ → Bool
-same_text [] [] = true
-same_text (x ∷ xs) (y ∷ ys) = if eqb x y then same_text xs ys else false
-same_text _ _ = false
+is_recursion kind.Assertion = false
+is_recursion kind.Overflow = false
+is_recursion kind.Division = false
+is_recursion kind.Shift = false
+is_recursion kind.Bounds = false
+is_recursion kind.Unwind = false
+is_recursion kind.Recursion = true
+is_recursion kind.Frame = false
 
 -- the `recursion` property of the function of a name
 abbrev pub prop_or_none : Option ℕ → PropId
@@ -142,7 +139,7 @@ prop_or_none None = record { 0 = 0 }
 prop_or_none (Some i) = record { 0 = i }
 
 abbrev pub recursion_of : List Prop → List ℕ → PropId
-recursion_of props name = prop_or_none (position (λ p. if is_recursion p.kind then same_text p.function name else false) props)
+recursion_of props name = prop_or_none (position_from (λ p. if is_recursion p.kind then bytes_eq p.function name else false) 0 props)
 
 -- parameters take the arguments, from the local x on; they are seen with the line of the call
 abbrev pub set_params : (line x : ℕ) → List ℤ → Onward
@@ -170,36 +167,36 @@ any_result None s c = Goes Next s [] c
 any_result (Some t) s c = draw t.bits c (λ n rest. Goes Next (returning s (converted t (pos n))) [] rest)
 
 -- a function's body at its arguments; `inner` says what the calls in it do. Its locals are its own
-abbrev pub body_effect : Setting → (inner : Calls) → (function : ℕ) → Function → TStmt → Place → List ℤ → Onward
-body_effect k inner f fn body p args s c =
-    after_body (eqb f k.pair.program.main) fn.result s.store.locals
-    (then_do (set_params p.line fn.first args (with_locals s (first_rows k.pair.program.locals)) c)
-    (after (record { pair = k.pair; bounds = k.bounds; here = f }) inner body.place body.node))
+abbrev pub body_effect : Pair → Bounds → (inner : Calls) → (function : ℕ) → Function → TStmt → Place → List ℤ → Onward
+body_effect pair b inner f fn body p args s c =
+    after_body (eqb f pair.program.main) fn.result s.store.locals
+    (then_do (set_params p.line fn.first args (with_locals s (first_rows pair.program.locals)) c)
+    (after (record { pair = pair; bounds = b; here = f }) inner body.place body.node))
 
 -- the `recursion` property of a function
 abbrev pub recursion_prop : CProgram → Function → PropId
 recursion_prop program fn = recursion_of program.props fn.name
 
 -- a call of a function, which may have one more activation or not
-abbrev pub entered_body : Setting → (may_enter : Bool) → (inner : Calls) → (function : ℕ) → Function → Option TStmt → Place → List ℤ → Onward
-entered_body k may_enter inner f fn None p args s c = any_result fn.result s c
-entered_body k true inner f fn (Some body) p args s c = body_effect k inner f fn body p args s c
-entered_body k false inner f fn (Some body) p args s c = broken (recursion_prop k.pair.program fn) c
+abbrev pub entered_body : Pair → Bounds → (may_enter : Bool) → (inner : Calls) → (function : ℕ) → Function → Option TStmt → Place → List ℤ → Onward
+entered_body pair b may_enter inner f fn None p args s c = any_result fn.result s c
+entered_body pair b true inner f fn (Some body) p args s c = body_effect pair b inner f fn body p args s c
+entered_body pair b false inner f fn (Some body) p args s c = broken (recursion_prop pair.program fn) c
 
-abbrev pub entered_function : Setting → (may_enter : Function → Bool) → (inner : Calls) → (function : ℕ) → Option Function → Place → List ℤ → Onward
-entered_function k may_enter inner f None p args s c = Goes Next s [] c
-entered_function k may_enter inner f (Some fn) p args s c = entered_body k (may_enter fn) inner f fn fn.body p args s c
+abbrev pub entered_function : Pair → Bounds → (may_enter : Function → Bool) → (inner : Calls) → (function : ℕ) → Option Function → Place → List ℤ → Onward
+entered_function pair b may_enter inner f None p args s c = Goes Next s [] c
+entered_function pair b may_enter inner f (Some fn) p args s c = entered_body pair b (may_enter fn) inner f fn fn.body p args s c
 
 -- fewer activations of a function stand than its limit
-abbrev pub is_below_limit : Setting → (standing : List ℕ) → (function : ℕ) → Function → Bool
-is_below_limit k standing f fn = nat_lt (count_by (λ g. eqb f g) standing) (limit_of k.bounds (recursion_prop k.pair.program fn))
+abbrev pub is_below_limit : Pair → Bounds → (standing : List ℕ) → (function : ℕ) → Function → Bool
+is_below_limit pair b standing f fn = nat_lt (count_by (λ g. eqb f g) standing) (limit_of b (recursion_prop pair.program fn))
 
 abbrev pub no_calls : Calls
 no_calls p f args s c = TooFew
 
 -- calls where `left` more activations may stand, and those of the functions in `standing` do
-abbrev pub calls_at : Setting → (left : ℕ) → (standing : List ℕ) → Calls
-calls_at k zero standing p f args s c =
-    entered_function k (λ fn. false) no_calls f (slice_get k.pair.program.functions f) p args s c
-calls_at k (suc left) standing p f args s c =
-    entered_function k (is_below_limit k standing f) (calls_at k left (standing ++ f ∷ [])) f (slice_get k.pair.program.functions f) p args s c
+abbrev pub calls_at : Pair → Bounds → (left : ℕ) → (standing : List ℕ) → Calls
+calls_at pair b zero standing p f args s c =
+    entered_function pair b (λ fn. false) no_calls f (slice_get pair.program.functions f) p args s c
+calls_at pair b (suc left) standing p f args s c =
+    entered_function pair b (is_below_limit pair b standing f) (calls_at pair b left (standing ++ f ∷ [])) f (slice_get pair.program.functions f) p args s c

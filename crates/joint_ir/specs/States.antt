@@ -1,7 +1,6 @@
 -- What a run holds at one moment: the objects of C, the words of the module, and how far it has come.
-use Rattle.std.specs.Prelude.{ℕ, zero, suc, ◌+◌, List, [], ◌∷◌, ◌++◌, length, slice_index_or, slice_set, drop, eqb, if◌then◌else◌}
-use Rattle.std.specs.Prelude.{ℤ, pos, Option, Some, None}
-use Rattle.joint_ir.specs.declared.ctype.IntType.{IntType}
+use Rattle.std.specs.Prelude.{ℕ, zero, suc, List, [], ◌∷◌, slice_index_or, slice_set}
+use Rattle.std.specs.Prelude.{ℤ, pos}
 use Rattle.joint_ir.specs.declared.expr.Slot.{Slot}
 use Rattle.joint_ir.specs.declared.expr.Slot.TheVariants.{Global, Local, Member, BoundValue}
 use Rattle.joint_ir.specs.declared.program.Var.{Var}

@@ -1,5 +1,5 @@
 -- What the simple statements do: stores, declarations, and the two calls that reach the module.
-use Rattle.std.specs.Prelude.{ℕ, zero, suc, ◌+◌, Bool, true, false, if◌then◌else◌, nat_lt, eqb, List, [], ◌∷◌, length, slice_get, slice_index_or}
+use Rattle.std.specs.Prelude.{ℕ, zero, suc, ◌+◌, Bool, false, if◌then◌else◌, nat_lt, eqb, List, [], ◌∷◌, length, slice_get, slice_index_or}
 use Rattle.std.specs.Prelude.{ℤ, pos, negsuc, Option, Some, None}
 use Rattle.std.specs.List.{find}
 use Rattle.joint_ir.specs.declared.bounds.Bounds.{Bounds}
@@ -25,10 +25,10 @@ use Rattle.joint_ir.specs.declared.stmt.TTarget.{TTarget}
 use Rattle.joint_ir.specs.declared.stmt.TUpdate.{TUpdate}
 use Rattle.src_text.specs.declared.refusal.Place.{Place}
 use Rattle.joint_ir.specs.Types.{int, converted}
-use Rattle.joint_ir.specs.Values.{Answer, Value, Fault, Rows, value_of, binary_value, is_zero}
+use Rattle.joint_ir.specs.Values.{Answer, Value, Rows, value_of, binary_value}
 use Rattle.joint_ir.specs.States.{Store, View, JointState, rows_of, put}
 use Rattle.joint_ir.specs.Views.{widths_of, site_widths, settled_wires, next_registers, filled, members_of, driven, changed}
-use Rattle.joint_ir.specs.Effects.{Effect, Goes, Stops, TooFew, Next, Returning, Onward, then_do, broken, check_then, with_value, with_values, draw, draw_all}
+use Rattle.joint_ir.specs.Effects.{Effect, Goes, Stops, Next, Returning, Onward, then_do, broken, check_then, with_value, with_values, draw, draw_all}
 
 -- what a run is of, and the function whose body runs
 pub record Setting : Type 0 where

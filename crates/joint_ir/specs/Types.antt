@@ -1,5 +1,5 @@
 -- The numbers of an integer type, and conversion to it (C99 6.2.5, 6.3.1.2 and 6.3.1.3).
-use Rattle.std.specs.Prelude.{◌≡◌, ℕ, zero, suc, ◌-◌, ◌^◌, ◌<◌, ◌≤◌, Bool, true, false, IsTrue, if◌then◌else◌}
+use Rattle.std.specs.Prelude.{zero, suc, ◌-◌, ◌^◌, Bool, true, false, if◌then◌else◌}
 use Rattle.std.specs.Prelude.{ℤ, pos, negsuc, neg_ℤ, ◌-ℤ◌, ◌≤ℤ◌, int_le, ◌&&◌}
 use Rattle.bits_core.specs.Word.{number, modulo}
 use Rattle.joint_ir.specs.declared.ctype.IntType.{IntType}

@@ -1,6 +1,6 @@
 -- The module in a run: what settles, what an edge makes of the registers, what the mirror shows and what it drives.
-use Rattle.std.specs.Prelude.{ℕ, zero, suc, ◌+◌, List, [], ◌∷◌, ◌++◌, length, map, take, drop, slice_index, slice_get, slice_index_or, eqb, nat_lt, if◌then◌else◌, Bool, true, false}
-use Rattle.std.specs.Prelude.{ℤ, pos, Option, Some, None, option_map}
+use Rattle.std.specs.Prelude.{ℕ, ◌+◌, List, [], ◌∷◌, ◌++◌, map, take, drop, slice_index, slice_get, slice_index_or, eqb, if◌then◌else◌, Bool, true, false}
+use Rattle.std.specs.Prelude.{ℤ, Option, Some, None, option_map}
 use Rattle.std.specs.List.{find}
 use Rattle.bits_core.specs.Word.{Word, word, number, modulo}
 use Rattle.word_eqs.specs.declared.term.TermId.{TermId}

@@ -1,6 +1,6 @@
 -- What a pair weighs: a measure of the gates that its unwinding makes, by recursion on the trees, with the limits of loops
 -- and the activations that stand.
-use Rattle.std.specs.Prelude.{ℕ, zero, suc, ◌+◌, ◌*◌, Bool, true, false, if◌then◌else◌, nat_lt, max, eqb, List, [], ◌∷◌, ◌++◌, length, sum_by, slice_get, count_by}
+use Rattle.std.specs.Prelude.{ℕ, zero, suc, ◌+◌, ◌*◌, Bool, true, false, if◌then◌else◌, max, min, List, [], ◌∷◌, ◌++◌, length, sum_by, slice_get}
 use Rattle.std.specs.Prelude.{Option, Some, None}
 use Rattle.joint_ir.specs.declared.bounds.Bounds.{Bounds}
 use Rattle.joint_ir.specs.declared.ctype.IntType.{IntType}
@@ -12,7 +12,9 @@ use Rattle.joint_ir.specs.declared.expr.TExpr.{TExpr}
 use Rattle.joint_ir.specs.declared.expr.TNode.{TNode, Const, Read, Index', Unary', Binary', Logic', Choose', Convert', more_of-TExpr}
 use Rattle.joint_ir.specs.declared.expr.UnaryOp.{UnaryOp}
 use Rattle.joint_ir.specs.declared.expr.UnaryOp.TheVariants.{Plus, Minus, Flip, Not}
+use Rattle.joint_ir.specs.declared.module.Role.{Role}
 use Rattle.joint_ir.specs.declared.module.Role.TheVariants.{Input, Register}
+use Rattle.joint_ir.specs.declared.module.Signal.{Signal}
 use Rattle.joint_ir.specs.declared.pair.Pair.{Pair}
 use Rattle.joint_ir.specs.declared.program.CProgram.{CProgram}
 use Rattle.joint_ir.specs.declared.program.Function.{Function}
@@ -28,9 +30,10 @@ use Rattle.joint_ir.specs.declared.stmt.TStmt.{TStmt}
 use Rattle.joint_ir.specs.declared.stmt.TTarget.{TTarget}
 use Rattle.joint_ir.specs.declared.stmt.TUpdate.{TUpdate}
 use Rattle.joint_ir.specs.States.{element_count}
-use Rattle.joint_ir.specs.Views.{widths_of, members_of}
+use Rattle.joint_ir.specs.Views.{same_role, members_of}
 use Rattle.joint_ir.specs.Steps.{Setting, limit_of, slot_type, result_of}
-use Rattle.joint_ir.specs.Statements.{recursion_prop, is_below_limit}
+use Rattle.joint_ir.specs.Statements.{is_below_limit}
+use Rattle.joint_ir.specs.Runs.{body_of}
 
 -- the number of elements of an array, and 0 for what is no array
 abbrev pub var_length : Option Var → ℕ
@@ -155,9 +158,13 @@ update_weight p target u =
     target_weight p target + old_weight (slot_length p target.slot) (slot_type p target.slot).bits target.index
     + (option_weight p u.right + binary_weight u.op u.ty u.ty.bits (option_bits u.right) + 4)
 
+-- the elements of an object that is declared
+abbrev pub elements_weight : Option Var → ℕ
+elements_weight None = 0
+elements_weight (Some x) = element_count x.length * (4 * x.ty.bits + 16)
+
 abbrev pub declare_weight : CProgram → CallWeights → Option Var → TInit → ℕ
-declare_weight p calls None init = init_weight p calls init
-declare_weight p calls (Some x) init = element_count x.length * (4 * x.ty.bits + 16) + init_weight p calls init
+declare_weight p calls var init = elements_weight var + init_weight p calls init
 
 abbrev pub bits_or_zero : Option IntType → ℕ
 bits_or_zero None = 0
@@ -172,11 +179,14 @@ return_weight k calls (Some init) =
 abbrev pub sum_of : List ℕ → ℕ
 sum_of ns = sum_by (λ n. n) ns
 
+abbrev pub role_bits : Role → Signal → ℕ
+role_bits role s = if same_role role s.role then element_count s.words * s.bits else 0
+
 abbrev pub input_bits : Pair → ℕ
-input_bits p = sum_of (widths_of Input p.module.signals)
+input_bits p = sum_by (role_bits Input) p.module.signals
 
 abbrev pub register_bits : Pair → ℕ
-register_bits p = sum_of (widths_of Register p.module.signals)
+register_bits p = sum_by (role_bits Register) p.module.signals
 
 abbrev pub member_bits : AMember → ℕ
 member_bits m = element_count m.length * bits_or_zero m.ty
@@ -235,45 +245,41 @@ abbrev mutual
   pub group_weight : Setting → CallWeights → (w : ℕ) → Group → ℕ
   group_weight k calls w (Group' labels _ row) = length labels * (4 * w + 16) + row_weight k calls row
 
+abbrev pub var_bits : Option Var → ℕ
+var_bits None = 0
+var_bits (Some x) = x.ty.bits
+
 -- the parameters of a function, which take their arguments by stores
 abbrev pub params_weight : List Var → (first n : ℕ) → ℕ
 params_weight locals first zero = 0
 params_weight locals first (suc n) = store_weight (var_bits (slice_get locals first)) + params_weight locals (suc first) n
-  where
-    var_bits : Option Var → ℕ
-    var_bits None = 0
-    var_bits (Some x) = x.ty.bits
 
-abbrev pub body_weight : Setting → (inner : CallWeights) → (function : ℕ) → Function → TStmt → ℕ
-body_weight k inner f fn body =
-    32 + params_weight k.pair.program.locals fn.first fn.params + 4 * bits_or_zero fn.result
-    + weight (record { pair = k.pair; bounds = k.bounds; here = f }) inner body.node
+abbrev pub body_weight : Pair → Bounds → (inner : CallWeights) → (function : ℕ) → Function → TStmt → ℕ
+body_weight p b inner f fn body =
+    32 + params_weight p.program.locals fn.first fn.params + 4 * bits_or_zero fn.result
+    + weight (record { pair = p; bounds = b; here = f }) inner body.node
 
 -- a function without body weighs its result; one that may not be entered weighs 16
-abbrev pub entered_weight : Setting → (may_enter : Bool) → (inner : CallWeights) → (function : ℕ) → Function → Option TStmt → ℕ
-entered_weight k may_enter inner f fn None = bits_or_zero fn.result + 16
-entered_weight k true inner f fn (Some body) = body_weight k inner f fn body
-entered_weight k false inner f fn (Some body) = 16
+abbrev pub entered_weight : Pair → Bounds → (may_enter : Bool) → (inner : CallWeights) → (function : ℕ) → Function → Option TStmt → ℕ
+entered_weight p b may_enter inner f fn None = bits_or_zero fn.result + 16
+entered_weight p b true inner f fn (Some body) = body_weight p b inner f fn body
+entered_weight p b false inner f fn (Some body) = 16
 
-abbrev pub function_weight : Setting → (may_enter : Function → Bool) → (inner : CallWeights) → (function : ℕ) → Option Function → ℕ
-function_weight k may_enter inner f None = 0
-function_weight k may_enter inner f (Some fn) = entered_weight k (may_enter fn) inner f fn fn.body
+abbrev pub function_weight : Pair → Bounds → (may_enter : Function → Bool) → (inner : CallWeights) → (function : ℕ) → Option Function → ℕ
+function_weight p b may_enter inner f None = 0
+function_weight p b may_enter inner f (Some fn) = entered_weight p b (may_enter fn) inner f fn fn.body
 
 -- calls where `left` more activations may stand, and those of the functions in `standing` do
-abbrev pub calls_weight : Setting → (left : ℕ) → (standing : List ℕ) → CallWeights
-calls_weight k zero standing f = function_weight k (λ fn. false) (λ g. 0) f (slice_get k.pair.program.functions f)
-calls_weight k (suc left) standing f =
-    function_weight k (is_below_limit k standing f) (calls_weight k left (standing ++ f ∷ [])) f (slice_get k.pair.program.functions f)
+abbrev pub calls_weight : Pair → Bounds → (left : ℕ) → (standing : List ℕ) → CallWeights
+calls_weight p b zero standing f = function_weight p b (λ fn. false) (λ g. 0) f (slice_get p.program.functions f)
+calls_weight p b (suc left) standing f =
+    function_weight p b (is_below_limit p b standing f) (calls_weight p b left (standing ++ f ∷ [])) f (slice_get p.program.functions f)
 
-abbrev pub main_weight : Pair → Bounds → Option Function → ℕ
+abbrev pub main_weight : Pair → Bounds → Option TStmt → ℕ
 main_weight p b None = 0
-main_weight p b (Some fn) = main_body_weight fn.body
-  where
-    main_body_weight : Option TStmt → ℕ
-    main_body_weight None = 0
-    main_body_weight (Some body) =
-        let k : Setting = record { pair = p; bounds = b; here = p.program.main } in
-        weight k (calls_weight k 31 (p.program.main ∷ [])) body.node
+main_weight p b (Some body) =
+    let k : Setting = record { pair = p; bounds = b; here = p.program.main } in
+    weight k (calls_weight p b 31 (p.program.main ∷ [])) body.node
 
 -- the file-scope elements
 abbrev pub globals_weight : List Var → ℕ
@@ -283,8 +289,8 @@ globals_weight vars = sum_by (λ x. 16 * element_count x.length) vars
 abbrev pub weight_of : Pair → Bounds → ℕ
 weight_of p b =
     64 + register_bits p + input_bits p + p.module.settle_weight + mirror_bits p + globals_weight p.program.globals
-    + main_weight p b (slice_get p.program.functions p.program.main)
+    + main_weight p b (body_of (slice_get p.program.functions p.program.main))
 
--- the greatest weight that is unwound
-abbrev pub HEAVIEST : ℕ
-HEAVIEST = 16777216
+-- the greatest weight that is unwound is 2^24; a greater one is told as one more
+abbrev pub capped : ℕ → ℕ
+capped w = min w 16777217

@@ -1,7 +1,6 @@
 -- Which pairs are well-formed. This is what a typer and a binder give, and what a stepper and an unwinder need.
-use Rattle.std.specs.Prelude.{◌≡◌, ℕ, zero, suc, ◌+◌, ◌*◌, ◌^◌, ◌<◌, ◌≤◌, ◌⊎◌, Bool, true, false, IsTrue, not, ◌&&◌, if◌then◌else◌, nat_lt, eqb, List, [], ◌∷◌, ◌++◌, length, map, sum_by, slice_get, count_by, Contains, All, MatchOption, IfSome, ◌↔◌}
-use Rattle.std.specs.Prelude.{ℤ, pos, Option, Some, None, IsSome, IsNone}
-use Rattle.std.specs.List.{list_any, list_all}
+use Rattle.std.specs.Prelude.{◌≡◌, bytes_eq, ℕ, zero, suc, ◌+◌, ◌*◌, ◌^◌, ◌<◌, ◌≤◌, ◌⊎◌, Bool, true, false, IsTrue, ◌&&◌, if◌then◌else◌, nat_lt, eqb, List, [], ◌∷◌, ◌++◌, length, map, slice_get, count_by, Contains, All, IfSome}
+use Rattle.std.specs.Prelude.{Option, Some, None, IsSome}
 use Rattle.std.specs.Ordering.{int_eq}
 use Rattle.word_eqs.specs.declared.term.TermId.{TermId}
 use Rattle.word_eqs.specs.Graph.{Graph, width_in, is_no_var}
@@ -40,11 +39,11 @@ use Rattle.joint_ir.specs.declared.stmt.TLoop.{TLoop, TLoop'}
 use Rattle.joint_ir.specs.declared.stmt.TStmt.{TStmt}
 use Rattle.joint_ir.specs.declared.stmt.TTarget.{TTarget}
 use Rattle.joint_ir.specs.declared.stmt.TUpdate.{TUpdate}
-use Rattle.joint_ir.specs.Types.{int, IsType, InRange, in_range}
+use Rattle.joint_ir.specs.Types.{int, IsType, InRange}
 use Rattle.joint_ir.specs.States.{element_count}
 use Rattle.joint_ir.specs.Views.{widths_of, site_widths, members_of}
 use Rattle.joint_ir.specs.Steps.{slot_type}
-use Rattle.joint_ir.specs.Statements.{is_case, is_default, is_recursion, same_text}
+use Rattle.joint_ir.specs.Statements.{is_recursion}
 use Rattle.joint_ir.specs.Weights.{slot_length, sum_of}
 
 -- the number of a kind, by which kinds are told apart
@@ -391,11 +390,11 @@ scope_of p f fn = record { program = p; here = f; locals = places_from fn.first 
 
 -- the `recursion` properties of a name
 abbrev pub recursions : CProgram → List ℕ → ℕ
-recursions p name = count_by (λ x. is_recursion x.kind && same_text x.function name) p.props
+recursions p name = count_by (λ x. is_recursion x.kind && bytes_eq x.function name) p.props
 
 -- the functions with a body and a name
 abbrev pub bodies : CProgram → List ℕ → ℕ
-bodies p name = count_by (λ fn. is_some fn.body && same_text fn.name name) p.functions
+bodies p name = count_by (λ fn. is_some fn.body && bytes_eq fn.name name) p.functions
 
 abbrev pub FitsBody : CProgram → ℕ → Function → Option TStmt → Type 0
 FitsBody p f fn None = (fn.first ≡ 0) × (fn.params ≡ 0)

@@ -8,10 +8,12 @@ pub mod bounds;
 pub mod ctype;
 pub mod event;
 pub mod expr;
+pub mod lookup;
 pub mod module;
 pub mod pair;
 pub mod program;
 pub mod stmt;
+pub mod weighing;
 
 pub use bounds::{Bounds, Limit, LimitList};
 pub use ctype::IntType;
@@ -27,3 +29,4 @@ pub use stmt::{
     Group, GroupList, Label, LabelList, SNode, TCall, TInit, TLoop, TStmt, TStmtList, TTarget,
     TUpdate,
 };
+pub use weighing::weight;
