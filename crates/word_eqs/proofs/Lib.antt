@@ -5,3 +5,6 @@ pub mod Evaluating
 pub mod Importing
 pub mod Overflow
 pub mod Walks
+pub mod Uses
+pub mod Assigning
+mod Rows

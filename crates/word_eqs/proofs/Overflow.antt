@@ -1,6 +1,6 @@
 -- Signed arithmetic at a greater width gives the whole-number result, and a word fits a width where it
 -- stands unchanged after it was cut and extended again.
-use Rattle.std.proofs.Common.{◌≡◌, ◌≢◌, ℕ, zero, suc, ◌+◌, ◌-◌, ◌*◌, ◌%◌, ◌^◌, ◌<◌, ◌≤◌, refl, sym, ap, ◌∙◌, subst, arith}
+use Rattle.std.proofs.Common.{◌≡◌, ℕ, zero, suc, ◌+◌, ◌-◌, ◌*◌, ◌%◌, ◌^◌, ◌<◌, ◌≤◌, sym, ap, ◌∙◌, subst, arith}
 use Rattle.std.specs.Prelude.{ℤ, pos, negsuc, neg_ℤ, ◌+ℤ◌, ◌-ℤ◌, ◌*ℤ◌, ◌≤ℤ◌, ◌<ℤ◌}
 use Rattle.std.proofs.lemmas.Int.{ints}
 use Rattle.std.specs.Prelude.{true}
@@ -11,7 +11,7 @@ use Rattle.bits_core.specs.declared.op.Op2.TheVariants.{Add, Sub, Mul}
 use Rattle.bits_core.specs.Word.{read_signed, wrap, number, resized}
 use Rattle.bits_core.specs.Ops.{value1, value2}
 use Rattle.bits_core.proofs.Signs.{wrap_is, sum_signed, product_signed}
-use Rattle.bits_core.proofs.Laws.{wrap_below, pow_le, halves, signed_low, signed_high, wrap_small, wrap_negsuc, wrap_signed, extended_signed, cut_signed}
+use Rattle.bits_core.proofs.Laws.{wrap_below, pow_le, halves, signed_low, signed_high, wrap_small, wrap_negsuc, wrap_signed, extended_signed}
 
 -- a whole number in the signed range of a modulus: from -m/2 to m/2 - 1
 pub record IsSignedIn (m : ℕ) (z : ℤ) : Type 0 where
@@ -95,12 +95,12 @@ difference_signed m x y p q =
     (λ l. halves m y
     (λ r. simp (signed_low m x l, signed_low m y r))
     (λ r. let e : pos x -ℤ negsuc (m - suc y) ≡ (pos x -ℤ pos y) +ℤ pos m = omega (arith, ints, high_is m y q) in
-        simp (signed_low m x l, signed_high m y r) (ap (wrap m) e ∙ wrap_turn m (pos x -ℤ pos y) h)))
+    simp (signed_low m x l, signed_high m y r) (ap (wrap m) e ∙ wrap_turn m (pos x -ℤ pos y) h)))
     (λ l. halves m y
     (λ r. let e : pos x -ℤ pos y ≡ (negsuc (m - suc x) -ℤ pos y) +ℤ pos m = omega (arith, ints, high_is m x p) in
-        simp (signed_high m x l, signed_low m y r) (sym (ap (wrap m) e ∙ wrap_turn m (negsuc (m - suc x) -ℤ pos y) h)))
+    simp (signed_high m x l, signed_low m y r) (sym (ap (wrap m) e ∙ wrap_turn m (negsuc (m - suc x) -ℤ pos y) h)))
     (λ r. let e : negsuc (m - suc x) -ℤ negsuc (m - suc y) ≡ pos x -ℤ pos y = omega (arith, ints, high_is m x p, high_is m y q) in
-        simp (signed_high m x l, signed_high m y r) (ap (wrap m) e)))
+    simp (signed_high m x l, signed_high m y r) (ap (wrap m) e)))
 
 pub opposite_signed : (m x : ℕ) → x < m → wrap m (neg_ℤ (read_signed m x)) ≡ wrap m (neg_ℤ (pos x))
 opposite_signed m x p =
@@ -108,7 +108,7 @@ opposite_signed m x p =
     halves m x
     (λ l. ap (λ z. wrap m (neg_ℤ z)) (signed_low m x l))
     (λ l. let e : neg_ℤ (negsuc (m - suc x)) ≡ neg_ℤ (pos x) +ℤ pos m = omega (arith, ints, high_is m x p) in
-        ap (λ z. wrap m (neg_ℤ z)) (signed_high m x l) ∙ ap (wrap m) e ∙ wrap_turn m (neg_ℤ (pos x)) h)
+    ap (λ z. wrap m (neg_ℤ z)) (signed_high m x l) ∙ ap (wrap m) e ∙ wrap_turn m (neg_ℤ (pos x)) h)
 
 -- at a width of one bit more, sums, differences and opposites are those of the signed numbers
 
@@ -127,9 +127,9 @@ wide_sum w x y p q =
     let j = wrap_below (2 ^ (w + 1)) b (pow_pos (w + 1)) in
     let fits : IsSignedIn (2 ^ (w + 1)) (a +ℤ b) = subst (λ m. IsSignedIn m (a +ℤ b)) (sym (twice_pow w)) (sum_fits (2 ^ w) a b (signed_is (2 ^ w) x p) (signed_is (2 ^ w) y q)) in
     let is : (resized (w + 1) true w x + resized (w + 1) true w y) % 2 ^ (w + 1) ≡ wrap (2 ^ (w + 1)) (a +ℤ b) =
-        sym (sum_signed (2 ^ (w + 1)) (resized (w + 1) true w x) (resized (w + 1) true w y) i j)
-        ∙ ap (λ z. wrap (2 ^ (w + 1)) (z +ℤ read_signed (2 ^ (w + 1)) (resized (w + 1) true w y))) (wide_read w (w + 1) x le p)
-        ∙ ap (λ z. wrap (2 ^ (w + 1)) (a +ℤ z)) (wide_read w (w + 1) y le q) in
+    sym (sum_signed (2 ^ (w + 1)) (resized (w + 1) true w x) (resized (w + 1) true w y) i j)
+    ∙ ap (λ z. wrap (2 ^ (w + 1)) (z +ℤ read_signed (2 ^ (w + 1)) (resized (w + 1) true w y))) (wide_read w (w + 1) x le p)
+    ∙ ap (λ z. wrap (2 ^ (w + 1)) (a +ℤ z)) (wide_read w (w + 1) y le q) in
     ap (read_signed (2 ^ (w + 1))) is ∙ signed_of_wrap (2 ^ (w + 1)) (a +ℤ b) fits
 
 pub wide_difference : (w x y : ℕ) → x < 2 ^ w → y < 2 ^ w → number true (w + 1) (value2 Sub (w + 1) (resized (w + 1) true w x) (resized (w + 1) true w y)) ≡ number true w x -ℤ number true w y
@@ -141,9 +141,9 @@ wide_difference w x y p q =
     let j = wrap_below (2 ^ (w + 1)) b (pow_pos (w + 1)) in
     let fits : IsSignedIn (2 ^ (w + 1)) (a -ℤ b) = subst (λ m. IsSignedIn m (a -ℤ b)) (sym (twice_pow w)) (difference_fits (2 ^ w) a b (signed_is (2 ^ w) x p) (signed_is (2 ^ w) y q)) in
     let is : wrap (2 ^ (w + 1)) (pos (resized (w + 1) true w x) -ℤ pos (resized (w + 1) true w y)) ≡ wrap (2 ^ (w + 1)) (a -ℤ b) =
-        sym (difference_signed (2 ^ (w + 1)) (resized (w + 1) true w x) (resized (w + 1) true w y) i j)
-        ∙ ap (λ z. wrap (2 ^ (w + 1)) (z -ℤ read_signed (2 ^ (w + 1)) (resized (w + 1) true w y))) (wide_read w (w + 1) x le p)
-        ∙ ap (λ z. wrap (2 ^ (w + 1)) (a -ℤ z)) (wide_read w (w + 1) y le q) in
+    sym (difference_signed (2 ^ (w + 1)) (resized (w + 1) true w x) (resized (w + 1) true w y) i j)
+    ∙ ap (λ z. wrap (2 ^ (w + 1)) (z -ℤ read_signed (2 ^ (w + 1)) (resized (w + 1) true w y))) (wide_read w (w + 1) x le p)
+    ∙ ap (λ z. wrap (2 ^ (w + 1)) (a -ℤ z)) (wide_read w (w + 1) y le q) in
     ap (read_signed (2 ^ (w + 1))) is ∙ signed_of_wrap (2 ^ (w + 1)) (a -ℤ b) fits
 
 pub wide_opposite : (w x : ℕ) → x < 2 ^ w → number true (w + 1) (value1 Neg (w + 1) (resized (w + 1) true w x)) ≡ neg_ℤ (number true w x)
@@ -153,8 +153,8 @@ wide_opposite w x p =
     let i = wrap_below (2 ^ (w + 1)) a (pow_pos (w + 1)) in
     let fits : IsSignedIn (2 ^ (w + 1)) (neg_ℤ a) = subst (λ m. IsSignedIn m (neg_ℤ a)) (sym (twice_pow w)) (opposite_fits (2 ^ w) a (pow_pos w) (signed_is (2 ^ w) x p)) in
     let is : wrap (2 ^ (w + 1)) (neg_ℤ (pos (resized (w + 1) true w x))) ≡ wrap (2 ^ (w + 1)) (neg_ℤ a) =
-        sym (opposite_signed (2 ^ (w + 1)) (resized (w + 1) true w x) i)
-        ∙ ap (λ z. wrap (2 ^ (w + 1)) (neg_ℤ z)) (wide_read w (w + 1) x le p) in
+    sym (opposite_signed (2 ^ (w + 1)) (resized (w + 1) true w x) i)
+    ∙ ap (λ z. wrap (2 ^ (w + 1)) (neg_ℤ z)) (wide_read w (w + 1) x le p) in
     ap (read_signed (2 ^ (w + 1))) is ∙ signed_of_wrap (2 ^ (w + 1)) (neg_ℤ a) fits
 
 -- at twice the width, products are those of the signed numbers
@@ -218,7 +218,7 @@ wide_product w x y p q =
     let j = wrap_below (2 ^ (w + w)) b (pow_pos (w + w)) in
     let fits : IsSignedIn (2 ^ (w + w)) (a *ℤ b) = subst (λ m. IsSignedIn m (a *ℤ b)) (sym (pow-add 2 w w)) (product_fits (2 ^ w) a b (pow_pos w) (signed_is (2 ^ w) x p) (signed_is (2 ^ w) y q)) in
     let is : (resized (w + w) true w x * resized (w + w) true w y) % 2 ^ (w + w) ≡ wrap (2 ^ (w + w)) (a *ℤ b) =
-        sym (product_signed (2 ^ (w + w)) (resized (w + w) true w x) (resized (w + w) true w y) i j)
-        ∙ ap (λ z. wrap (2 ^ (w + w)) (z *ℤ read_signed (2 ^ (w + w)) (resized (w + w) true w y))) (wide_read w (w + w) x le p)
-        ∙ ap (λ z. wrap (2 ^ (w + w)) (a *ℤ z)) (wide_read w (w + w) y le q) in
+    sym (product_signed (2 ^ (w + w)) (resized (w + w) true w x) (resized (w + w) true w y) i j)
+    ∙ ap (λ z. wrap (2 ^ (w + w)) (z *ℤ read_signed (2 ^ (w + w)) (resized (w + w) true w y))) (wide_read w (w + w) x le p)
+    ∙ ap (λ z. wrap (2 ^ (w + w)) (a *ℤ z)) (wide_read w (w + w) y le q) in
     ap (read_signed (2 ^ (w + w))) is ∙ signed_of_wrap (2 ^ (w + w)) (a *ℤ b) fits

@@ -1,5 +1,5 @@
 -- Lists are walked piece by piece.
-use Rattle.std.proofs.Common.{◌≡◌, ℕ, List, [], ◌∷◌, ◌++◌, refl, sym, ap, ◌∙◌, append_assoc, append-nil}
+use Rattle.std.proofs.Common.{◌≡◌, List, [], ◌∷◌, ◌++◌, refl, sym, ap, ◌∙◌, append_assoc, append-nil}
 use Rattle.word_eqs.specs.declared.list.Step.{Step}
 use Rattle.word_eqs.specs.Meaning.{Values}
 use Rattle.word_eqs.specs.Guarded.{Walk, Passes, Stops, walk_then, step_walk, walk}
