@@ -1,35 +1,32 @@
-//! What a joint run of a C program and a circuit is judged by.
+//! The joint program: a typed C program, a flat Verilog module and what binds them; what a run of the two is, and what
+//! it weighs.
+//!
+//! Knows nothing of texts or grammars, of how a run is carried out, and of how all runs are searched.
 #![tactic(auto)]
 
-/// How far runs go.
-#[derive(Clone, Copy, Debug, PartialEq, Eq)]
-pub struct Bounds {
-    /// How many turns of a loop, and how many activations of a function at one time.
-    pub unwind: u32,
-    /// How many clock edges.
-    pub frames: u32,
-    /// Whether a call of `next_timeframe` past the last edge breaks a property, in place of ending the
-    /// run quietly.
-    pub check_bound: bool,
-}
+pub mod bounds;
+pub mod ctype;
+pub mod event;
+pub mod expr;
+pub mod lookup;
+pub mod module;
+pub mod pair;
+pub mod program;
+pub mod stmt;
+pub mod weighing;
 
-/// What a property of the C program says.
-#[derive(Clone, Copy, Debug, PartialEq, Eq)]
-pub enum PropKind {
-    /// An assertion holds.
-    Assertion,
-    /// A result is in its signed type (C99 6.5p5).
-    Overflow,
-    /// A divisor isn't 0 (C99 6.5.5p5).
-    Division,
-    /// A shift is by fewer bits than the operand has, and of a value that may be shifted (C99 6.5.7).
-    Shift,
-    /// An index is within its array (C99 6.5.6p8).
-    Bounds,
-    /// A loop ends within its turns.
-    Unwind,
-    /// No more activations of a function stand than are allowed.
-    Recursion,
-    /// A run takes no more clock edges than are allowed.
-    Frame,
-}
+pub use bounds::{Bounds, Limit, LimitList};
+pub use ctype::IntType;
+pub use event::{Choices, Event, EventList, Outcome, Shown, ShownList};
+pub use expr::{BinaryOp, LogicOp, Slot, TExpr, TExprList, TNode, UnaryOp};
+pub use module::{FirstList, FlatModule, Role, Signal, SignalList, Site, SiteList};
+pub use pair::{Binding, Link, LinkList, Pair};
+pub use program::{
+    CProgram, Function, FunctionList, Member, MemberList, MirrorDecl, Prop, PropId, PropKind,
+    PropList, ValueList, Var, VarList,
+};
+pub use stmt::{
+    Group, GroupList, Label, LabelList, SNode, TCall, TInit, TLoop, TStmt, TStmtList, TTarget,
+    TUpdate,
+};
+pub use weighing::weight;
