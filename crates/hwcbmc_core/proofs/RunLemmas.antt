@@ -6,7 +6,7 @@ use Rattle.std.specs.Prelude.{replicate}
 use Rattle.hwcbmc_core.specs.Runs.{Statement, NextFrame, Assert, Ended, OutOfFrames, Broken, Run, Property, assertion, next_count, count_at, run_from, run_of, CanBreak}
 use Rattle.hwcbmc_core.specs.declared.sources.Program.{Program}
 use Rattle.hwcbmc_core.specs.declared.sources.Counter.{Counter}
-use Rattle.joint_ir.specs.declared.Bounds.{Bounds}
+use Rattle.joint_ir.specs.declared.bounds.Bounds.{Bounds}
 
 -- The sum of the steps, at 8 bits.
 pub count_at_is : (counter : Counter) (edges : ℕ) → counter.first < 256 → count_at counter edges ≡ (counter.first + edges * counter.step) % 256

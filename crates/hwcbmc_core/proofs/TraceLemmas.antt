@@ -9,7 +9,7 @@ use Rattle.hwcbmc_core.specs.Runs.{Shown, Broken, Event, Frame, Broke, Run, asse
 use Rattle.hwcbmc_core.specs.Trace.{shown_text, event_text, trace_text}
 use Rattle.hwcbmc_core.specs.declared.sources.Program.{Program}
 use Rattle.hwcbmc_core.specs.declared.sources.Counter.{Counter}
-use Rattle.joint_ir.specs.declared.Bounds.{Bounds}
+use Rattle.joint_ir.specs.declared.bounds.Bounds.{Bounds}
 use Rattle.hwcbmc_core.proofs.RunLemmas.{rest_of, outcome_past, past_unbroken, breaks_none}
 
 -- the frames up to one

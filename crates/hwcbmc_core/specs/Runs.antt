@@ -3,7 +3,7 @@
 use Rattle.std.specs.Prelude.{◌≡◌, ℕ, ◌+◌, ◌%◌, ◌==◌, List, [], ◌∷◌, ◌++◌, replicate, if◌then◌else◌, codes, zero, suc}
 use Rattle.hwcbmc_core.specs.declared.sources.Program.{Program}
 use Rattle.hwcbmc_core.specs.declared.sources.Counter.{Counter}
-use Rattle.joint_ir.specs.declared.Bounds.{Bounds}
+use Rattle.joint_ir.specs.declared.bounds.Bounds.{Bounds}
 
 -- a statement of the C program
 pub data Statement : Type 0 where

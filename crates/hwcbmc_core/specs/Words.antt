@@ -23,7 +23,7 @@ names_file (first ∷ rest) = not (first == 45)
 abbrev pub on_files : List ℕ → List ℕ → ℕ → Option Options
 on_files c_file v_file frames =
     if names_file c_file && names_file v_file
-    then Some (record { bounds = record { unwind = 11; frames = frames; check_bound = false }; c_file = c_file; v_file = v_file })
+    then Some (record { bounds = record { unwind = 11; limits = []; frames = frames; check_bound = false }; c_file = c_file; v_file = v_file })
     else None
 
 -- `C_FILE V_FILE`, with 10 clock edges, or `--bound K C_FILE V_FILE`

@@ -57,7 +57,7 @@ fn judge(alloc: Global, options: Options, c_text: &[u8], v_text: &[u8]) -> Answe
     let Some(counter) = read_v(v_text) else {
         return Answer::refused(options.v_file, Lang::V, Kind::Unsupported);
     };
-    if !breaks(program, counter, options.bounds) {
+    if !breaks(program, counter, &options.bounds) {
         return Answer::Successful;
     }
     match trace(alloc, program, counter) {

@@ -17,10 +17,10 @@ fn count_after(first: u8, step: u8, edges: usize) -> u8
 
 /// Whether each run within the bounds breaks the assertion; else no run breaks anything. A run that
 /// meets the end of the frames breaks nothing.
-pub fn breaks(program: Program, counter: Counter, bounds: Bounds) -> bool
+pub fn breaks(program: Program, counter: Counter, bounds: &Bounds) -> bool
     ensures { MatchBool result
-        ((choices : List ℕ) → (run_of program counter bounds choices).outcome ≡ Broken (assertion program))
-        ((property : _) → ¬ (CanBreak program counter bounds property)) }
+        ((choices : List ℕ) → (run_of program counter bounds.now choices).outcome ≡ Broken (assertion program))
+        ((property : _) → ¬ (CanBreak program counter bounds.now property)) }
 {
     program.edges <= bounds.frames as usize
         && count_after(counter.first, counter.step, program.edges) != program.expected

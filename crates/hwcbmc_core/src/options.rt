@@ -7,7 +7,7 @@ use src_text::Name;
 use std::alloc::AllocError;
 
 /// What the words ask for.
-#[derive(Debug, Drop)]
+#[derive(Drop)]
 pub struct Options {
     pub bounds: Bounds,
     pub c_file: Name,

@@ -6,7 +6,7 @@ ghost use Rattle.std.specs.List.{list_all};
 ghost use Rattle.hwcbmc_core.specs.Words.{options_of, on_files, names_file, frames_in, is_numeral};
 
 use crate::options::{Options, UsageEnd};
-use joint_ir::Bounds;
+use joint_ir::{Bounds, LimitList};
 use src_text::Name;
 use std::alloc::Global;
 
@@ -52,6 +52,7 @@ fn with_files(alloc: Global, frames: u32, c_file: &str, v_file: &str) -> Result<
     Ok(Options {
         bounds: Bounds {
             unwind: DEFAULT_UNWIND,
+            limits: LimitList::new(alloc),
             frames,
             check_bound: false,
         },
