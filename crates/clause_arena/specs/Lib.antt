@@ -1,0 +1,3 @@
+pub mod Clause
+pub mod Arena
+pub mod Spans
