@@ -1,12 +1,12 @@
 -- Gates of graphs that grow.
-use Rattle.std.proofs.Common.{◌≡◌, ℕ, zero, suc, ◌+◌, ◌*◌, ◌<◌, ◌≤◌, List, [], ◌∷◌, ◌++◌, length, Some, refl, sym, ap, ◌∙◌, arith}
+use Rattle.std.proofs.Common.{◌≡◌, ℕ, suc, ◌+◌, ◌*◌, ◌≤◌, List, [], ◌∷◌, length, Some, refl, sym, ap, ◌∙◌, arith}
 use Rattle.std.specs.Prelude.{slice_get, sum_by}
 use Rattle.std.proofs.lemmas.List.Sums.{sum_by-cons, sum_by_push}
 use Rattle.std.proofs.lemmas.Option.{slice_get_within}
 use Rattle.word_eqs.specs.declared.term.TermNode.{TermNode}
 use Rattle.word_eqs.specs.declared.term.TermNode.TheVariants.{Const, Var, One, Two, Choose, Resize, Slice, Join}
 use Rattle.word_eqs.specs.declared.term.Term.{Term}
-use Rattle.word_eqs.specs.Graph.{Graph, width_in, node_width, FitsNode, IsGraph, with_term, Extends}
+use Rattle.word_eqs.specs.Graph.{Graph, node_width, FitsNode, IsGraph, with_term, Extends}
 use Rattle.word_eqs.specs.Gates.{gates1, gates2, node_gates, term_gates}
 use Rattle.word_eqs.proofs.Graphs.{width_kept, extends_with_term}
 
@@ -31,7 +31,7 @@ cost g node h f =
     let le : length g.terms ≤ length g.terms = omega arith in
     sum_by_push (λ (x : Term). node_gates (with_term g node) x.node) g.terms (record { node = node; width = node_width g node })
     ∙ ap (λ k. k + node_gates (with_term g node) node) (sum_by_same (λ (x : Term). node_gates (with_term g node) x.node) (λ (x : Term). node_gates g x.node) g.terms (λ k x at.
-        let within = slice_get_within g.terms k x at in
-        let le' : k ≤ length g.terms = omega arith in
-        node_gates_kept g (with_term g node) k x.node e le' (h.terms k x at).fits))
+    let within = slice_get_within g.terms k x at in
+    let le' : k ≤ length g.terms = omega arith in
+    node_gates_kept g (with_term g node) k x.node e le' (h.terms k x at).fits))
     ∙ ap (λ k. term_gates g + k) (node_gates_kept g (with_term g node) (length g.terms) node e le f)

@@ -1,20 +1,19 @@
 -- Graphs that grow: what was there stays, and what is added fits.
-use Rattle.std.proofs.Common.{◌≡◌, ℕ, zero, suc, ◌+◌, ◌-◌, ◌<◌, ◌≤◌, ◌^◌, List, [], ◌∷◌, ◌++◌, length, map, take, get_or, Option, Some, refl, sym, ap, ◌∙◌, subst, arith, length-append, ◌⊎◌, inl, inr}
-use Rattle.std.specs.Prelude.{slice_get, slice_index, All}
-use Rattle.std.proofs.lemmas.List.{get_or-take, length-take, length-map}
+use Rattle.std.proofs.Common.{◌≡◌, ℕ, zero, suc, ◌+◌, ◌<◌, ◌≤◌, ◌^◌, List, [], ◌∷◌, ◌++◌, length, map, take, drop, get_or, Some, refl, sym, ap, ◌∙◌, subst, arith, length-append, ◌⊎◌, inl, inr}
+use Rattle.std.specs.Prelude.{slice_get, All}
+use Rattle.std.proofs.lemmas.List.{get_or-take, length-take, take-append-le, take-append-drop}
 use Rattle.std.proofs.lemmas.List.Elements.{All-append}
 use Rattle.std.proofs.lemmas.Option.{slice_get-get_or, slice_get_within, get_or_from_slice_get}
 use Rattle.std.proofs.Math.Seq.{take-length}
 use Rattle.std.proofs.Math.Seq.{get_or-append_seam, take-append_seam}
-use Rattle.bits_core.specs.Word.{Word, IsWidth, IsWord, at_zero, resized_word, sliced, joined}
-use Rattle.bits_core.specs.Ops.{width1, width2, word1, word2}
+use Rattle.bits_core.specs.Word.{IsWidth}
+use Rattle.bits_core.specs.Ops.{width1, width2}
 use Rattle.bits_core.proofs.Proper.{width1_is, width2_is}
-use Rattle.word_eqs.specs.declared.term.TermId.{TermId}
 use Rattle.word_eqs.specs.declared.term.TermNode.{TermNode}
 use Rattle.word_eqs.specs.declared.term.TermNode.TheVariants.{Const, Var, One, Two, Choose, Resize, Slice, Join}
 use Rattle.word_eqs.specs.declared.term.Term.{Term}
-use Rattle.word_eqs.specs.Graph.{Graph, graph, width_in, width_of_var, node_width, FitsNode, IsTermAt, IsGraph, with_var, with_term, Extends, IsTyped}
-use Rattle.word_eqs.specs.Meaning.{Values, node_word, AreValues, IsWordOf, FitsVars, Respects, Makes}
+use Rattle.word_eqs.specs.Graph.{Graph, width_in, width_of_var, node_width, FitsNode, IsTermAt, IsGraph, with_var, with_term, Extends, IsTyped}
+use Rattle.word_eqs.specs.Meaning.{Values, IsWordOf, Respects, Makes}
 
 -- lists of which one begins with the other
 
@@ -53,7 +52,7 @@ get_pushed (z ∷ xs) y (suc k) x at = on (get_pushed xs y k x at)
 
 -- widths
 
-abbrev no_term : Term
+abbrev pub no_term : Term
 no_term = record { node = Var (record { 0 = 0 }); width = 0 }
 
 pub width_at : (g : Graph) (k : ℕ) → width_in g k ≡ (get_or g.terms k no_term).width
@@ -125,6 +124,16 @@ term_kept g h k x e le t = record {
 pub extends_refl : (g : Graph) → Extends g g
 extends_refl g = record { vars = take-length g.vars; terms = take-length g.terms }
 
+take_again : {X : Type 0} (xs ys zs : List X) → take (length xs) ys ≡ xs → take (length ys) zs ≡ ys → take (length xs) zs ≡ xs
+take_again xs ys zs e f =
+    let l : length xs ≤ length ys = longer xs ys e in
+    let m : length ys ≤ length zs = longer ys zs f in
+    let n : length xs ≤ length (take (length ys) zs) = omega (arith, ap length f) in
+    ap (take (length xs)) (sym (take-append-drop (length ys) zs)) ∙ take-append-le (length xs) (take (length ys) zs) (drop (length ys) zs) n ∙ ap (take (length xs)) f ∙ e
+
+pub extends_trans : (f g h : Graph) → Extends f g → Extends g h → Extends f h
+extends_trans f g h d e = record { vars = take_again f.vars g.vars h.vars d.vars e.vars; terms = take_again f.terms g.terms h.terms d.terms e.terms }
+
 pub extends_with_term : (g : Graph) (node : TermNode) → Extends g (with_term g node)
 extends_with_term g node = record { vars = take-length g.vars; terms = take-append_seam g.terms _ }
 
@@ -134,10 +143,12 @@ extends_with_var g w = record { vars = take-append_seam g.vars _; terms = take-l
 -- a valuation that respects a graph respects what it extends
 pub grown : (v : Values) (g h : Graph) → Extends g h → Respects v h → Respects v g
 grown v g h e r = record {
-  vars = record { at = λ x lt.
-      let l = longer g.vars h.vars e.vars in
-      let lt' : x < length h.vars = omega arith in
-      subst (λ k. IsWordOf k (v.var x)) (var_kept g h x e lt) (r.vars.at x lt') };
+  vars = record {
+    at = λ x lt.
+        let l = longer g.vars h.vars e.vars in
+        let lt' : x < length h.vars = omega arith in
+        subst (λ k. IsWordOf k (v.var x)) (var_kept g h x e lt) (r.vars.at x lt');
+  };
   terms = record { at = λ k x at. r.terms.at k x (get_kept g.terms h.terms k x e.terms at) };
 }
 

@@ -1,8 +1,7 @@
 -- Terms: a graph of nodes by their places, parts before what they are parts of.
-use Rattle.std.specs.Prelude.{◌≡◌, ℕ, ◌+◌, ◌-◌, ◌<◌, ◌≤◌, ◌^◌, List, [], ◌∷◌, ◌++◌, Option, Some, length, map, slice_get, slice_index, option_map, take, All, count_by, Bool, true, false}
-use Rattle.bits_core.specs.Word.{Word, IsWidth, IsWord}
+use Rattle.std.specs.Prelude.{◌≡◌, ℕ, ◌+◌, ◌-◌, ◌<◌, ◌≤◌, ◌^◌, List, [], ◌∷◌, ◌++◌, Option, Some, length, map, slice_get, slice_index, option_map, take, All}
+use Rattle.bits_core.specs.Word.{IsWidth, IsWord}
 use Rattle.bits_core.specs.Ops.{width1, width2}
-use Rattle.word_eqs.specs.declared.term.TermId.{TermId}
 use Rattle.word_eqs.specs.declared.term.TermNode.{TermNode}
 use Rattle.word_eqs.specs.declared.term.TermNode.TheVariants.{Const, Var, One, Two, Choose, Resize, Slice, Join}
 use Rattle.word_eqs.specs.declared.term.Term.{Term}
@@ -92,41 +91,3 @@ parts (Choose c a b) = c.0 ∷ a.0 ∷ b.0 ∷ []
 parts (Resize a to signed) = a.0 ∷ []
 parts (Slice a high low) = a.0 ∷ []
 parts (Join a b) = a.0 ∷ b.0 ∷ []
-
--- the places that a list of names says
-abbrev pub places : List TermId → List ℕ
-places ids = map (λ (t : TermId). t.0) ids
-
-abbrev pub is_made : TermNode → Bool
-is_made (Var x) = false
-is_made _ = true
-
--- whether a term is no variable
-abbrev pub is_no_var : Term → Bool
-is_no_var x = is_made x.node
-
--- a term for each variable of a graph, of its width
-pub record AreSubs (g from : Graph) (subs : List ℕ) : Type 0 where
-  pub len : length subs ≡ length from.vars
-  pub there : (x : ℕ) → x < length from.vars → slice_index subs x < length g.terms
-  pub widths : (x : ℕ) → x < length from.vars → width_in g (slice_index subs x) ≡ width_of_var from x
-
--- the copies of a graph's terms are there, with their widths
-pub record AreCopies (new from : Graph) (ids : List ℕ) : Type 0 where
-  pub len : length ids ≡ length from.terms
-  pub there : (k : ℕ) → k < length from.terms → slice_index ids k < length new.terms
-  pub widths : (k : ℕ) → k < length from.terms → width_in new (slice_index ids k) ≡ width_in from k
-
--- a node, with other terms for its parts
-abbrev pub moved : List ℕ → TermId → TermId
-moved ids t = record { 0 = slice_index ids t.0 }
-
-abbrev pub moved_node : List ℕ → TermNode → TermNode
-moved_node ids (Const a) = Const a
-moved_node ids (Var x) = Var x
-moved_node ids (One op a) = One op (moved ids a)
-moved_node ids (Two op a b) = Two op (moved ids a) (moved ids b)
-moved_node ids (Choose c a b) = Choose (moved ids c) (moved ids a) (moved ids b)
-moved_node ids (Resize a to signed) = Resize (moved ids a) to signed
-moved_node ids (Slice a high low) = Slice (moved ids a) high low
-moved_node ids (Join a b) = Join (moved ids a) (moved ids b)

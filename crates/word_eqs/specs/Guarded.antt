@@ -1,13 +1,13 @@
 -- Guarded lists: what an assignment makes of them, and which are in order.
-use Rattle.std.specs.Prelude.{◌≡◌, ℕ, ◌<◌, Bool, false, List, [], ◌∷◌, ◌++◌, Some, length, count_by, nat_eq, take, map, slice_get, Contains}
-use Rattle.bits_core.specs.Word.{Word, at_zero}
+use Rattle.std.specs.Prelude.{◌≡◌, ℕ, ◌<◌, Bool, false, List, [], ◌∷◌, ◌++◌, Some, length, count_by, nat_eq, take, slice_get, Contains}
+use Rattle.bits_core.specs.Word.{at_zero}
 use Rattle.word_eqs.specs.declared.term.TermNode.{TermNode}
 use Rattle.word_eqs.specs.declared.term.TermNode.TheVariants.{Var}
 use Rattle.word_eqs.specs.declared.list.Act.{Act}
 use Rattle.word_eqs.specs.declared.list.Act.TheVariants.{Free, Set, Cut, Prop}
 use Rattle.word_eqs.specs.declared.list.Step.{Step}
 use Rattle.word_eqs.specs.Graph.{Graph, width_in, width_of_var, node_at, parts}
-use Rattle.word_eqs.specs.Meaning.{Values, Respects}
+use Rattle.word_eqs.specs.Meaning.{Values}
 
 -- how a list may be ended: by an assumption that is 0, or by a property that is
 pub data Stop : Type 0 where

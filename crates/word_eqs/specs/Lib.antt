@@ -2,3 +2,4 @@ pub mod Graph
 pub mod Meaning
 pub mod Gates
 pub mod Guarded
+pub mod Import

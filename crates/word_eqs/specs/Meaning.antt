@@ -1,5 +1,5 @@
 -- The words of terms.
-use Rattle.std.specs.Prelude.{◌≡◌, ℕ, ◌<◌, ◌^◌, List, [], ◌∷◌, ◌++◌, Some, length, map, slice_get, slice_index}
+use Rattle.std.specs.Prelude.{◌≡◌, ℕ, ◌<◌, ◌^◌, List, [], ◌∷◌, ◌++◌, Some, length, slice_get}
 use Rattle.std.specs.List.{slice_index_or}
 use Rattle.bits_core.specs.Word.{Word, word, at_zero, resized_word, sliced, joined}
 use Rattle.bits_core.specs.Ops.{word1, word2}
@@ -61,12 +61,3 @@ meaning a g = look a (eval a [] g.terms)
 pub record Makes (old new : Graph) (node : TermNode) (t : ℕ) : Type 0 where
   pub grown : (v : Values) → Respects v new → Respects v old
   pub value : (v : Values) → Respects v new → v.term t ≡ node_word v node
-
--- a valuation read through the terms that stand for variables, and those that are copies of terms
-abbrev pub through : Values → List ℕ → List ℕ → Values
-through v subs ids = record { var = λ x. v.term (slice_index subs x); term = λ k. v.term (slice_index ids k) }
-
--- read so, a valuation of the new graph is one of the graph that was copied
-pub record Copies (old new from : Graph) (subs ids : List ℕ) : Type 0 where
-  pub grown : (v : Values) → Respects v new → Respects v old
-  pub value : (v : Values) → Respects v new → Respects (through v subs ids) from

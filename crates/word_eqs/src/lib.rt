@@ -19,3 +19,6 @@ pub type Words = Items<Word>;
 
 /// A list of names of terms.
 pub type TermIds = Items<TermId>;
+
+#[cfg(test)]
+mod tests;

@@ -1,9 +1,10 @@
 // Terms, and their words.
 
-ghost use Rattle.std.specs.Prelude.{◌≡◌, ℕ, ◌<◌, ◌≤◌, ◌^◌, ◌+◌, [], Some, length, map, count_by, slice_get, slice_index, IfOk, OnOk, OnErr};
+ghost use Rattle.std.specs.Prelude.{◌≡◌, ℕ, ◌<◌, ◌≤◌, ◌^◌, ◌+◌, [], ◌∷◌, Some, length, map, count_by, slice_get, slice_index, IfOk, OnOk, OnErr};
 ghost use Rattle.bits_core.specs.Word.{Word as Worded};
-ghost use Rattle.word_eqs.specs.Graph.{graph, width_in, width_of_var, node_at, node_width, FitsNode, IsTermAt, IsGraph, IsTyped, with_var, with_term, is_no_var, places, AreSubs, AreCopies, Extends, moved_node};
-ghost use Rattle.word_eqs.specs.Meaning.{Values, Respects, Makes, Copies, AreValues, look, word_at as word_of, node_word};
+ghost use Rattle.word_eqs.specs.Graph.{graph, width_in, width_of_var, node_at, node_width, FitsNode, IsTermAt, IsGraph, IsTyped, with_var, with_term, Extends};
+ghost use Rattle.word_eqs.specs.Import.{is_no_var, places, AreSubs, AreCopies, Copies, IsCopy, moved_node};
+ghost use Rattle.word_eqs.specs.Meaning.{Values, Respects, Makes, AreValues, look, word_at as word_of, node_word};
 ghost use Rattle.word_eqs.specs.declared.term.Term.{Term as Termed};
 ghost use Rattle.word_eqs.specs.Gates.{term_gates, node_gates};
 
@@ -205,7 +206,7 @@ impl Terms {
         ensures extends { OnOk result (Extends self.old self.new) }
         ensures vars { OnOk result (self.new.vars ≡ self.old.vars) }
         ensures copied { IfOk result (λ ids. Copies self.old self.new from.now (places map.now) (places ids)) }
-        ensures typed { IfOk result (λ ids. AreCopies self.new from.now (places ids)) }
+        ensures typed { IfOk result (λ ids. AreCopies self.new from.now (places ids) (length from.now.terms)) }
         ensures count { OnOk result (length self.new.terms ≤ length self.old.terms + count_by is_no_var from.now.terms) }
         ensures cost { OnOk result (term_gates self.new ≤ term_gates self.old + term_gates from.now) }
         ensures err { OnErr result (self.new ≡ self.old) }
@@ -228,20 +229,42 @@ impl Terms {
         ensures extends { Extends self.old self.new }
         ensures vars { self.new.vars ≡ self.old.vars }
         ensures copied { IfOk result (λ ids. Copies self.old self.new from.now (places map.now) (places ids)) }
-        ensures typed { IfOk result (λ ids. AreCopies self.new from.now (places ids)) }
+        ensures typed { IfOk result (λ ids. AreCopies self.new from.now (places ids) (length from.now.terms)) }
         ensures count { OnOk result (length self.new.terms ≤ length self.old.terms + count_by is_no_var from.now.terms) }
         ensures cost { OnOk result (term_gates self.new ≤ term_gates self.old + term_gates from.now) }
         ensures proper { IsGraph self.new }
     {
         let mut ids = TermIds::new(*self.terms.allocator());
         for k in 0..from.len() {
-            let id = match from.term_at(k).node {
-                TermNode::Var(x) => id_at(map, x.0),
-                _ => self.add(from.moved(k, &ids))?,
-            };
+            let id = self.import_at(from, map, &ids, k)?;
             ids.push(id)?;
         }
         Ok(ids)
+    }
+
+    /// The copy of the term at a place, where those before it have copies.
+    fn import_at(
+        &mut self,
+        from: &Terms,
+        map: &TermIds,
+        ids: &TermIds,
+        k: u32,
+    ) -> Result<TermId, AllocError>
+        requires within { k < length from.now.terms }
+        requires subs { AreSubs self.old from.now (places map.now) }
+        requires copies { AreCopies self.old from.now (places ids.now) k }
+        requires room { (x : Termed) → slice_get from.now.terms k ≡ Some x → length self.old.terms + count_by is_no_var (x ∷ []) ≤ 2 ^ 31 }
+        ensures copy { IfOk result (λ t. (x : Termed) → slice_get from.now.terms k ≡ Some x → IsCopy self.old self.new from.now (places map.now) (places ids.now) x t.0) }
+        ensures err { OnErr result (self.new ≡ self.old) }
+    {
+        let _ = &self.vars;
+        match from.term_at(k).node {
+            TermNode::Var(x) => Ok(id_at(map, x.0)),
+            _ => {
+                let id = self.add(from.moved(k, ids))?;
+                Ok(id)
+            }
+        }
     }
 
     /// The node at a place, with other terms for its parts.

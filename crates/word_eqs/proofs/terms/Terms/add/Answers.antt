@@ -1,8 +1,7 @@
-use Rattle.std.proofs.Common.{◌≡◌, List, ◌++◌, ◌∷◌, [], ◌+◌, length, sym, ap, ◌∙◌, subst, rules}
-use Rattle.word_eqs.specs.declared.term.Term.{Term}
+use Rattle.std.proofs.Common.{◌≡◌, ◌++◌, ◌∷◌, [], length, sym, ap, ◌∙◌, subst, rules}
 use Rattle.word_eqs.specs.Graph.{Graph, graph, node_width, IsGraph, with_term}
 use Rattle.word_eqs.specs.Meaning.{Makes}
-use Rattle.word_eqs.specs.Gates.{term_gates, node_gates}
+use Rattle.word_eqs.specs.Gates.{term_gates}
 use Rattle.word_eqs.proofs.Graphs.{graph_with_term, makes}
 use Rattle.word_eqs.proofs.Counts.{cost}
 use Rattle.word_eqs.proofs.terms.Terms.add.Goals as goal

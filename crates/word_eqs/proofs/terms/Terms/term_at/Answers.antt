@@ -1,7 +1,6 @@
-use Rattle.std.proofs.Common.{◌≡◌, ◌<◌, ◌∙◌, length, get_or, Some, refl, ap, subst}
-use Rattle.std.specs.Prelude.{slice_get}
+use Rattle.std.proofs.Common.{◌≡◌, ◌∙◌, length, get_or, refl, ap, subst}
 use Rattle.std.proofs.lemmas.Option.{slice_get_read}
-use Rattle.word_eqs.specs.Graph.{Graph, IsGraph, IsTermAt}
+use Rattle.word_eqs.specs.Graph.{Graph, IsGraph}
 use Rattle.word_eqs.proofs.terms.Terms.term_at.Goals as goal
 
 pub returns-clause-fits : goal.returns-clause-fits

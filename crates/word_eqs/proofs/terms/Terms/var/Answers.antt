@@ -1,4 +1,4 @@
-use Rattle.std.proofs.Common.{◌≡◌, List, ◌++◌, ◌∷◌, [], sym, ap, ◌∙◌, subst}
+use Rattle.std.proofs.Common.{◌≡◌, sym, ap, ◌∙◌, subst}
 use Rattle.word_eqs.specs.Graph.{Graph, graph, IsGraph, with_var}
 use Rattle.word_eqs.proofs.Graphs.{graph_with_var}
 use Rattle.word_eqs.proofs.terms.Terms.var.Goals as goal

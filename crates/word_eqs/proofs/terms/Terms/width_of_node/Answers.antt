@@ -1,8 +1,6 @@
-use Rattle.std.proofs.Common.{◌≡◌, ◌<◌, ◌≤◌, length, subst, arith}
-use Rattle.bits_core.specs.Word.{IsWidth}
-use Rattle.word_eqs.specs.declared.term.TermNode.{TermNode}
+use Rattle.std.proofs.Common.{length, subst, arith}
 use Rattle.word_eqs.specs.declared.term.TermNode.TheVariants.{Slice}
-use Rattle.word_eqs.specs.Graph.{Graph, IsGraph, FitsNode, node_width}
+use Rattle.word_eqs.specs.Graph.{IsGraph, FitsNode}
 use Rattle.word_eqs.proofs.Graphs.{node_width_is}
 use Rattle.word_eqs.proofs.terms.Terms.width_of_node.Goals as goal
 
