@@ -1,0 +1,4 @@
+pub mod Circuit
+pub mod Bitwise
+pub mod Shifts
+pub mod Quotients
