@@ -64,17 +64,18 @@ eval_at a g (y ∷ terms) words (suc k) x at f =
     let f' : FitsNode g (length next + k) x.node = subst (λ m. FitsNode g m x.node) (sym n) f in
     ap (word_at (eval a next terms)) (sym n) ∙ eval_at a g terms next k x at f'
 
--- the meaning of a graph under an assignment respects it
-pub meaning_respects : (a : ℕ → Word) (g : Graph) → IsGraph g → FitsVars a g → Respects (meaning a g) g
-meaning_respects a g h f = record {
-  vars = f;
-  terms = record {
-    at = λ k x at.
-        let n : 0 + k ≡ k = omega arith in
-        let f' : FitsNode g (0 + k) x.node = subst (λ m. FitsNode g m x.node) (sym n) (h.terms k x at).fits in
-        ap (word_at (eval a [] g.terms)) (sym n) ∙ eval_at a g g.terms [] k x at f';
-  };
+-- the meaning of a graph under an assignment gives each term what its parts make
+pub meaning_values : (a : ℕ → Word) (g : Graph) → IsGraph g → AreValues (meaning a g) g.terms
+meaning_values a g h = record {
+  at = λ k x at.
+      let n : 0 + k ≡ k = omega arith in
+      let f : FitsNode g (0 + k) x.node = subst (λ m. FitsNode g m x.node) (sym n) (h.terms k x at).fits in
+      ap (word_at (eval a [] g.terms)) (sym n) ∙ eval_at a g g.terms [] k x at f;
 }
+
+-- and respects it, where the words of the variables fit
+pub meaning_respects : (a : ℕ → Word) (g : Graph) → IsGraph g → FitsVars a g → Respects (meaning a g) g
+meaning_respects a g h f = record { vars = f; terms = meaning_values a g h }
 
 -- two valuations that agree on the variables agree on all terms
 pub one_meaning : (v w : Values) (g : Graph) → IsGraph g → ((x : ℕ) → x < length g.vars → v.var x ≡ w.var x) → AreValues v g.terms → AreValues w g.terms → (k : ℕ) → k < length g.terms → v.term k ≡ w.term k
@@ -92,15 +93,7 @@ one_meaning v w g h same p q k lt = up_to (length g.terms) (omega arith) k lt
 -- evaluation of an extended graph keeps the words of the terms that were there
 pub old_words_kept : (a : ℕ → Word) (g h : Graph) → IsGraph g → IsGraph h → Extends g h → (k : ℕ) → k < length g.terms → (meaning a h).term k ≡ (meaning a g).term k
 old_words_kept a g h i j e k lt =
-    one_meaning (meaning a h) (meaning a g) g i (λ x l. refl) (record { at = λ k x at. (values a h j).at k x (get_kept g.terms h.terms k x e.terms at) }) (values a g i) k lt
-  where
-    values : (a : ℕ → Word) (g : Graph) → IsGraph g → AreValues (meaning a g) g.terms
-    values a g h = record {
-      at = λ k x at.
-          let n : 0 + k ≡ k = omega arith in
-          let f' : FitsNode g (0 + k) x.node = subst (λ m. FitsNode g m x.node) (sym n) (h.terms k x at).fits in
-          ap (word_at (eval a [] g.terms)) (sym n) ∙ eval_at a g g.terms [] k x at f';
-    }
+    one_meaning (meaning a h) (meaning a g) g i (λ x l. refl) (record { at = λ k x at. (meaning_values a h j).at k x (get_kept g.terms h.terms k x e.terms at) }) (meaning_values a g i) k lt
 
 -- words of terms have the widths of the terms
 

@@ -12,8 +12,8 @@ use Rattle.word_eqs.specs.declared.term.VarId.{VarId}
 use Rattle.word_eqs.specs.declared.term.TermNode.{TermNode}
 use Rattle.word_eqs.specs.declared.term.TermNode.TheVariants.{Const, Var, One, Two, Choose, Resize, Slice, Join}
 use Rattle.word_eqs.specs.declared.term.Term.{Term}
-use Rattle.word_eqs.specs.Graph.{Graph, width_in, width_of_var, node_width, FitsNode, IsTermAt, IsGraph, with_term, Extends}
-use Rattle.word_eqs.specs.Import.{is_made, is_no_var, AreSubs, AreCopies, IsCopy, Copies, moved_node, through}
+use Rattle.word_eqs.specs.Graph.{Graph, width_in, width_of_var, node_width, FitsNode, IsTermAt, IsGraph, with_term, Extends, is_made, is_no_var}
+use Rattle.word_eqs.specs.Import.{AreSubs, AreCopies, IsCopy, Copies, moved_node, through}
 use Rattle.word_eqs.specs.Meaning.{Values, node_word, Respects}
 use Rattle.word_eqs.specs.Gates.{gates1, gates2, node_gates, term_gates}
 use Rattle.word_eqs.proofs.Graphs.{longer, width_kept, width_is, extends_refl, extends_trans, extends_with_term, grown, graph_with_term, get_last}

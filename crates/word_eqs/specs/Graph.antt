@@ -1,7 +1,8 @@
 -- Terms: a graph of nodes by their places, parts before what they are parts of.
-use Rattle.std.specs.Prelude.{◌≡◌, ℕ, ◌+◌, ◌-◌, ◌<◌, ◌≤◌, ◌^◌, List, [], ◌∷◌, ◌++◌, Option, Some, length, map, slice_get, slice_index, option_map, take, All}
+use Rattle.std.specs.Prelude.{◌≡◌, ℕ, ◌+◌, ◌-◌, ◌<◌, ◌≤◌, ◌^◌, List, [], ◌∷◌, ◌++◌, Option, Some, length, map, slice_get, slice_index, option_map, take, All, Bool, true, false}
 use Rattle.bits_core.specs.Word.{IsWidth, IsWord}
 use Rattle.bits_core.specs.Ops.{width1, width2}
+use Rattle.word_eqs.specs.declared.term.TermId.{TermId}
 use Rattle.word_eqs.specs.declared.term.TermNode.{TermNode}
 use Rattle.word_eqs.specs.declared.term.TermNode.TheVariants.{Const, Var, One, Two, Choose, Resize, Slice, Join}
 use Rattle.word_eqs.specs.declared.term.Term.{Term}
@@ -91,3 +92,15 @@ parts (Choose c a b) = c.0 ∷ a.0 ∷ b.0 ∷ []
 parts (Resize a to signed) = a.0 ∷ []
 parts (Slice a high low) = a.0 ∷ []
 parts (Join a b) = a.0 ∷ b.0 ∷ []
+
+-- the places that a list of names says
+abbrev pub places : List TermId → List ℕ
+places ids = map (λ (t : TermId). t.0) ids
+
+abbrev pub is_made : TermNode → Bool
+is_made (Var x) = false
+is_made _ = true
+
+-- whether a term is no variable
+abbrev pub is_no_var : Term → Bool
+is_no_var x = is_made x.node

@@ -1,24 +1,12 @@
 -- Copies of a graph's terms, with other terms put in for its variables.
-use Rattle.std.specs.Prelude.{◌≡◌, ℕ, ◌+◌, ◌<◌, ◌≤◌, Bool, true, false, List, [], ◌∷◌, length, map, slice_index, count_by}
+use Rattle.std.specs.Prelude.{◌≡◌, ℕ, ◌+◌, ◌<◌, ◌≤◌, List, [], ◌∷◌, length, slice_index, count_by}
 use Rattle.word_eqs.specs.declared.term.TermId.{TermId}
 use Rattle.word_eqs.specs.declared.term.TermNode.{TermNode}
 use Rattle.word_eqs.specs.declared.term.TermNode.TheVariants.{Const, Var, One, Two, Choose, Resize, Slice, Join}
 use Rattle.word_eqs.specs.declared.term.Term.{Term}
-use Rattle.word_eqs.specs.Graph.{Graph, width_in, width_of_var, IsGraph, Extends}
+use Rattle.word_eqs.specs.Graph.{Graph, width_in, width_of_var, IsGraph, Extends, is_no_var}
 use Rattle.word_eqs.specs.Meaning.{Values, Respects, node_word}
 use Rattle.word_eqs.specs.Gates.{node_gates, term_gates}
-
--- the places that a list of names says
-abbrev pub places : List TermId → List ℕ
-places ids = map (λ (t : TermId). t.0) ids
-
-abbrev pub is_made : TermNode → Bool
-is_made (Var x) = false
-is_made _ = true
-
--- whether a term is no variable
-abbrev pub is_no_var : Term → Bool
-is_no_var x = is_made x.node
 
 -- a term for each variable of a graph, of its width
 pub record AreSubs (g from : Graph) (subs : List ℕ) : Type 0 where

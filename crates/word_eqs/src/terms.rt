@@ -2,8 +2,8 @@
 
 ghost use Rattle.std.specs.Prelude.{◌≡◌, ℕ, ◌<◌, ◌≤◌, ◌^◌, ◌+◌, [], ◌∷◌, Some, length, map, count_by, slice_get, slice_index, IfOk, OnOk, OnErr};
 ghost use Rattle.bits_core.specs.Word.{Word as Worded};
-ghost use Rattle.word_eqs.specs.Graph.{graph, width_in, width_of_var, node_at, node_width, FitsNode, IsTermAt, IsGraph, IsTyped, with_var, with_term, Extends};
-ghost use Rattle.word_eqs.specs.Import.{is_no_var, places, AreSubs, AreCopies, Copies, IsCopy, moved_node};
+ghost use Rattle.word_eqs.specs.Graph.{graph, width_in, width_of_var, node_at, node_width, FitsNode, IsTermAt, IsGraph, IsTyped, with_var, with_term, Extends, is_no_var, places};
+ghost use Rattle.word_eqs.specs.Import.{AreSubs, AreCopies, Copies, IsCopy, moved_node};
 ghost use Rattle.word_eqs.specs.Meaning.{Values, Respects, Makes, AreValues, look, word_at as word_of, node_word};
 ghost use Rattle.word_eqs.specs.declared.term.Term.{Term as Termed};
 ghost use Rattle.word_eqs.specs.Gates.{term_gates, node_gates};

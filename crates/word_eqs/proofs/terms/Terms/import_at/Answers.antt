@@ -1,8 +1,8 @@
 use Rattle.std.proofs.Common.{◌≡◌, ◌+◌, ◌<◌, ◌≤◌, ◌^◌, true, [], ◌∷◌, length, sym, ap, ◌∙◌, subst, arith}
 use Rattle.std.specs.Prelude.{slice_index, count_by}
 use Rattle.word_eqs.specs.declared.term.Term.{Term}
-use Rattle.word_eqs.specs.Graph.{Graph, FitsNode, IsGraph, with_term}
-use Rattle.word_eqs.specs.Import.{places, is_made, is_no_var, IsCopy, moved_node}
+use Rattle.word_eqs.specs.Graph.{Graph, FitsNode, IsGraph, with_term, places, is_made, is_no_var}
+use Rattle.word_eqs.specs.Import.{IsCopy, moved_node}
 use Rattle.word_eqs.proofs.Importing.{some_is, moved_fits, made, count_made, copy_var, copy_node}
 use Rattle.word_eqs.proofs.terms.Terms.import_at.Goals as goal
 

@@ -1,10 +1,11 @@
+use Rattle.word_eqs.specs.Graph.{places}
 use Rattle.std.proofs.Common.{◌≡◌, ◌+◌, ◌<◌, [], ◌∷◌, ◌++◌, length, get_or, Some, sym, ap, ◌∙◌, subst, arith}
 use Rattle.std.specs.Prelude.{slice_get}
 use Rattle.std.proofs.lemmas.List.{map-append}
 use Rattle.std.proofs.lemmas.Option.{slice_get-get_or}
 use Rattle.word_eqs.specs.declared.term.TermId.{TermId}
 use Rattle.word_eqs.specs.declared.term.Term.{Term}
-use Rattle.word_eqs.specs.Import.{places, IsCopy}
+use Rattle.word_eqs.specs.Import.{IsCopy}
 use Rattle.word_eqs.proofs.Graphs.{no_term, extends_trans}
 use Rattle.word_eqs.proofs.Importing.{Imported, subs_kept, room_for, imported_more, copies_all}
 use Rattle.word_eqs.proofs.terms.Terms.import_terms.Goals as goal

@@ -1,4 +1,4 @@
-use Rattle.word_eqs.specs.Import.{places}
+use Rattle.word_eqs.specs.Graph.{places}
 use Rattle.word_eqs.proofs.Importing.{Imported}
 use Rattle.word_eqs.proofs.terms.Terms.import_terms.Given as goal
 
