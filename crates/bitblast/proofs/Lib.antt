@@ -13,3 +13,4 @@ pub mod QuotientLaws
 pub mod SignedLaws
 pub mod ShapeLaws
 pub mod Bounds
+pub mod NodeLaws

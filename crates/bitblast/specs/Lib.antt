@@ -2,3 +2,4 @@ pub mod Circuit
 pub mod Bitwise
 pub mod Shifts
 pub mod Quotients
+pub mod Wires

@@ -26,5 +26,8 @@ pub mod quotients;
 
 // All operations.
 pub mod operations;
+
+// Terms, one node at a time.
+pub mod nodes;
 #[cfg(test)]
 mod tests;
