@@ -4,7 +4,7 @@ ghost use Rattle.std.specs.Prelude.{◌≡◌, ◌+◌, ◌<◌, ◌≤◌, leng
 ghost use Rattle.word_eqs.specs.declared.term.TermNode.TheVariants.{Const, Var, One, Two, Choose, Resize, Slice, Join};
 ghost use Rattle.bitblast.specs.Wires.{IsReady, MakesNode, edges_at};
 
-use crate::bitwise::{choose_word, Wire};
+use crate::bitwise::{Wire, choose_word};
 use crate::operations::{operate1, operate2};
 use crate::shapes::{append, constant, join, resize, slice};
 use bits_core::{Op1, Op2, Word};
@@ -26,7 +26,13 @@ pub fn edges_of(wires: &WireList, at: u32) -> &[Edge]
 }
 
 /// The edges of a constant.
-fn constant_edges(net: &mut Net, terms: &Terms, vars: &WireList, words: &WireList, word: Word) -> Result<Wire, AllocError>
+fn constant_edges(
+    net: &mut Net,
+    terms: &Terms,
+    vars: &WireList,
+    words: &WireList,
+    word: Word,
+) -> Result<Wire, AllocError>
     requires { IsReady net.old terms.now vars.now words.now (Const word) }
     ensures { IfOk result (λ made. MakesNode net.old net.new terms.now vars.now words.now (Const word) made.items) }
 {
@@ -34,7 +40,13 @@ fn constant_edges(net: &mut Net, terms: &Terms, vars: &WireList, words: &WireLis
 }
 
 /// The edges of a variable.
-fn variable_edges(net: &mut Net, terms: &Terms, vars: &WireList, words: &WireList, x: VarId) -> Result<Wire, AllocError>
+fn variable_edges(
+    net: &mut Net,
+    terms: &Terms,
+    vars: &WireList,
+    words: &WireList,
+    x: VarId,
+) -> Result<Wire, AllocError>
     requires { IsReady net.old terms.now vars.now words.now (Var x) }
     ensures { IfOk result (λ made. MakesNode net.old net.new terms.now vars.now words.now (Var x) made.items) }
 {
@@ -44,7 +56,14 @@ fn variable_edges(net: &mut Net, terms: &Terms, vars: &WireList, words: &WireLis
 }
 
 /// The edges of an operation on one term.
-fn one_edges(net: &mut Net, terms: &Terms, vars: &WireList, words: &WireList, op: Op1, a: TermId) -> Result<Wire, AllocError>
+fn one_edges(
+    net: &mut Net,
+    terms: &Terms,
+    vars: &WireList,
+    words: &WireList,
+    op: Op1,
+    a: TermId,
+) -> Result<Wire, AllocError>
     requires { IsReady net.old terms.now vars.now words.now (One op a) }
     ensures { IfOk result (λ made. MakesNode net.old net.new terms.now vars.now words.now (One op a) made.items) }
 {
@@ -53,7 +72,15 @@ fn one_edges(net: &mut Net, terms: &Terms, vars: &WireList, words: &WireList, op
 }
 
 /// The edges of an operation on two terms.
-fn two_edges(net: &mut Net, terms: &Terms, vars: &WireList, words: &WireList, op: Op2, a: TermId, b: TermId) -> Result<Wire, AllocError>
+fn two_edges(
+    net: &mut Net,
+    terms: &Terms,
+    vars: &WireList,
+    words: &WireList,
+    op: Op2,
+    a: TermId,
+    b: TermId,
+) -> Result<Wire, AllocError>
     requires { IsReady net.old terms.now vars.now words.now (Two op a b) }
     ensures { IfOk result (λ made. MakesNode net.old net.new terms.now vars.now words.now (Two op a b) made.items) }
 {
@@ -62,7 +89,15 @@ fn two_edges(net: &mut Net, terms: &Terms, vars: &WireList, words: &WireList, op
 }
 
 /// The edges of a choice.
-fn choice_edges(net: &mut Net, terms: &Terms, vars: &WireList, words: &WireList, c: TermId, a: TermId, b: TermId) -> Result<Wire, AllocError>
+fn choice_edges(
+    net: &mut Net,
+    terms: &Terms,
+    vars: &WireList,
+    words: &WireList,
+    c: TermId,
+    a: TermId,
+    b: TermId,
+) -> Result<Wire, AllocError>
     requires { IsReady net.old terms.now vars.now words.now (Choose c a b) }
     ensures { IfOk result (λ made. MakesNode net.old net.new terms.now vars.now words.now (Choose c a b) made.items) }
 {
@@ -72,7 +107,15 @@ fn choice_edges(net: &mut Net, terms: &Terms, vars: &WireList, words: &WireList,
 }
 
 /// The edges of a term at another width.
-fn resized_edges(net: &mut Net, terms: &Terms, vars: &WireList, words: &WireList, a: TermId, to: u8, signed: bool) -> Result<Wire, AllocError>
+fn resized_edges(
+    net: &mut Net,
+    terms: &Terms,
+    vars: &WireList,
+    words: &WireList,
+    a: TermId,
+    to: u8,
+    signed: bool,
+) -> Result<Wire, AllocError>
     requires { IsReady net.old terms.now vars.now words.now (Resize a to signed) }
     ensures { IfOk result (λ made. MakesNode net.old net.new terms.now vars.now words.now (Resize a to signed) made.items) }
 {
@@ -80,7 +123,15 @@ fn resized_edges(net: &mut Net, terms: &Terms, vars: &WireList, words: &WireList
 }
 
 /// The edges of a slice.
-fn slice_edges(net: &mut Net, terms: &Terms, vars: &WireList, words: &WireList, a: TermId, high: u8, low: u8) -> Result<Wire, AllocError>
+fn slice_edges(
+    net: &mut Net,
+    terms: &Terms,
+    vars: &WireList,
+    words: &WireList,
+    a: TermId,
+    high: u8,
+    low: u8,
+) -> Result<Wire, AllocError>
     requires { IsReady net.old terms.now vars.now words.now (Slice a high low) }
     ensures { IfOk result (λ made. MakesNode net.old net.new terms.now vars.now words.now (Slice a high low) made.items) }
 {
@@ -88,7 +139,14 @@ fn slice_edges(net: &mut Net, terms: &Terms, vars: &WireList, words: &WireList, 
 }
 
 /// The edges of a term on the left of another.
-fn joined_edges(net: &mut Net, terms: &Terms, vars: &WireList, words: &WireList, a: TermId, b: TermId) -> Result<Wire, AllocError>
+fn joined_edges(
+    net: &mut Net,
+    terms: &Terms,
+    vars: &WireList,
+    words: &WireList,
+    a: TermId,
+    b: TermId,
+) -> Result<Wire, AllocError>
     requires { IsReady net.old terms.now vars.now words.now (Join a b) }
     ensures { IfOk result (λ made. MakesNode net.old net.new terms.now vars.now words.now (Join a b) made.items) }
 {
@@ -96,7 +154,13 @@ fn joined_edges(net: &mut Net, terms: &Terms, vars: &WireList, words: &WireList,
 }
 
 /// The edges of a node whose parts are made.
-pub fn node_edges(net: &mut Net, terms: &Terms, vars: &WireList, words: &WireList, node: TermNode) -> Result<Wire, AllocError>
+pub fn node_edges(
+    net: &mut Net,
+    terms: &Terms,
+    vars: &WireList,
+    words: &WireList,
+    node: TermNode,
+) -> Result<Wire, AllocError>
     requires { IsReady net.old terms.now vars.now words.now node }
     ensures { IfOk result (λ made. MakesNode net.old net.new terms.now vars.now words.now node made.items) }
 {
