@@ -3,6 +3,7 @@ use Rattle.std.proofs.Common.{◌⊎◌, inl, inr, ◌≡◌, ℕ, suc, zero, �
 use Rattle.std.specs.Bool.{MatchBool}
 use Rattle.std.specs.List.{list_any, Contains, AllPairs}
 use Rattle.std.specs.List.Sorted.{IsPermutation}
+use Rattle.std.specs.Cmp.{IsEquivalence}
 use Rattle.std.specs.Cmp.Lexicographic.{pointwise}
 use Rattle.std.proofs.lemmas.Bool.{eqb-true, eq-eqb, or_cases, or_left, or_right, and_parts, and_from, false≢true, not-false}
 use Rattle.std.proofs.lemmas.List.Folds.{list_any-append}
@@ -12,6 +13,16 @@ use Rattle.clause_arena.specs.declared.Lit.{Lit}
 use Rattle.clause_arena.specs.Clause.{Clause, lit, lit_eq, has, is_same}
 use Rattle.clause_arena.proofs.Sets.{lit_eq-true, lit_eq-refl, is_same-at, is_same-from, bool_iff}
 use Rattle.res_log.specs.Keys.{code_of, IsKey, Remembers}
+
+flips : (x y : Lit) → lit_eq x y ≡ true → lit_eq y x ≡ true
+flips x y h = subst (λ (z : Lit). lit_eq z x ≡ true) (lit_eq-true x y h) (lit_eq-refl x)
+
+pub lit_eq-equiv : IsEquivalence lit_eq
+lit_eq-equiv = record {
+  refl = lit_eq-refl;
+  symm = λ x y. bool_iff (lit_eq x y) (lit_eq y x) (flips x y) (flips y x);
+  congr = λ x y z h. ap (λ (w : Lit). lit_eq w z) (lit_eq-true x y h);
+}
 
 bits-same : (v w : ℕ) (a b : Bool) → 2 * v + cond a 1 0 ≡ 2 * w + cond b 1 0 → (v ≡ w) × (a ≡ b)
 bits-same v w true true h = (omega arith, refl)

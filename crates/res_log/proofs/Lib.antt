@@ -11,5 +11,6 @@ pub mod Marking
 pub mod Tables
 pub mod Keying
 pub mod Chains
-pub mod Tests
+pub mod StepTests
 pub mod Replays
+pub mod Keeps

@@ -1,15 +1,13 @@
 -- The book of a sound log, step by step.
-use Rattle.std.proofs.Common.{inl, inr, ◌≡◌, ◌↔◌, ℕ, suc, zero, ◌+◌, ◌-◌, ◌<◌, ◌≤◌, Bool, true, false, not, ◌||◌, List, [], ◌∷◌, ◌++◌, length, take, set, get_or, Option, Some, None, eqb, cond, refl, sym, ◌∙◌, ap, subst, arith, IsTrue, length-append}
+use Rattle.std.proofs.Common.{inl, inr, ◌≡◌, ◌↔◌, ℕ, ◌+◌, ◌-◌, ◌<◌, Bool, true, false, not, List, [], ◌∷◌, ◌++◌, length, set, get_or, Option, Some, None, eqb, cond, refl, sym, ◌∙◌, ap, subst, arith, IsTrue, length-append}
 use Rattle.std.specs.Option.{option_and_then, IsSomeAnd}
-use Rattle.std.proofs.lemmas.Bool.{cases_Bool, cases_lt, cases_eq, cond-true, cond-false, eqb-true, eqb-false, eq-eqb, false≢true}
+use Rattle.std.proofs.lemmas.Bool.{cases_Bool, cases_lt, cases_eq, cond-true, cond-false, eqb-true, eqb-false, eq-eqb}
 use Rattle.std.proofs.lemmas.List.{get_or-set_same, get_or-set_other, get_or_past, get_or_append_left, get_or_push}
 use Rattle.clause_arena.specs.declared.ClauseId.{ClauseId}
 use Rattle.clause_arena.specs.Clause.{Clause, Clauses, clause_at}
-use Rattle.res_log.specs.declared.ChainStep.{ChainStep}
 use Rattle.res_log.specs.declared.origins.Origin.{Origin}
 use Rattle.res_log.specs.Step.{Step}
 use Rattle.res_log.specs.Log.{Book, derives, chain, result_of, input, enter, book_before, IsSound, EndsEmpty}
-use Rattle.res_log.specs.Shelf.{shelf}
 use Rattle.res_log.specs.Origins.{IsTable, book_of}
 use Rattle.res_log.proofs.Tables.{book-shelf, chain-along}
 use Rattle.res_log.proofs.Right.{enter_all-more}

@@ -1,8 +1,8 @@
 -- Steps by their places.
-use Rattle.std.proofs.Common.{◌≡◌, ℕ, true, [], Option, Some, sym, ap}
+use Rattle.std.proofs.Common.{◌≡◌, ◌<◌, ℕ, Bool, true, false, List, [], ◌∷◌, length, Option, Some, refl, sym, ap, arith}
 use Rattle.std.specs.List.{list_all}
 use Rattle.std.specs.Option.{is_some, unwrap_or}
-use Rattle.std.proofs.lemmas.Bool.{and_parts}
+use Rattle.std.proofs.lemmas.Bool.{and_parts, both_ways}
 use Rattle.clause_arena.specs.declared.ClauseId.{ClauseId}
 use Rattle.res_log.specs.Step.{Step}
 use Rattle.clause_arena.specs.Clause.{Clause, Clauses, clause_at}
@@ -23,3 +23,7 @@ live-rest arena s h = (and_parts _ _ h).1
 
 pub lits-at : (arena : Clauses) (id : ℕ) (c : Clause) → clause_at arena id ≡ Some c → c ≡ lits_at arena id
 lits-at arena id c e = ap (λ (o : Option Clause). unwrap_or o []) (sym e)
+
+pub some-step : (log : List Step) (b : Bool) → (log ≡ [] → b ≡ true) → b ≡ false → 0 < length log
+some-step [] b f h = absurd (both_ways b h (f refl))
+some-step (s ∷ ss) b f h = omega arith

@@ -1,4 +1,6 @@
--- Logs each of whose results gives unit propagation something that the clauses before it do not give.
+-- Logs each of whose results gives unit propagation something that the clauses before it do not give:
+-- a result that is not empty is 1-empowering (K. Pipatsrisawat and A. Darwiche, On the power of
+-- clause-learning SAT solvers as resolution engines, Artificial Intelligence 175, 2011).
 use Rattle.std.specs.Prelude.{◌≡◌, ℕ, ◌<◌, true, List, [], ◌∷◌, length, slice_index_or}
 use Rattle.std.specs.Option.{ForSome, IsSomeAnd}
 use Rattle.clause_arena.specs.Clause.{Clause, Clauses}
@@ -6,8 +8,9 @@ use Rattle.res_log.specs.Step.{Step}
 use Rattle.res_log.specs.Log.{Book, book_before, result_of}
 use Rattle.res_log.specs.Partial.{IsPartial, IsAsserting, is_quiet, is_open}
 
--- some partial assignment leaves one literal of the clause free and makes the others false, and under it each clause of the book has a true literal or two free ones
--- the empty clause is gained where no clause of the book is empty
+-- Some partial assignment leaves one literal of the clause free and makes the others false, and under
+-- it each clause of the book has a true literal or two free ones. The empty clause is gained where no
+-- clause of the book is empty.
 abbrev pub IsGainedOver : Book → Clause → Type 0
 IsGainedOver book [] = (id : ℕ) → ForSome (book id) (λ d. is_open d ≡ true)
 IsGainedOver book (x ∷ xs) =

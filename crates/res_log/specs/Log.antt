@@ -1,4 +1,10 @@
 -- What a log of resolution steps derives, and when it is sound and valid.
+--
+-- A step is a chain: a first clause that is resolved with other clauses in turn, as in the traces of
+-- tracecheck (A. Biere, PicoSAT Essentials, Journal on Satisfiability, Boolean Modeling and
+-- Computation 4, 2008) and in trivial resolution (P. Beame, H. Kautz and A. Sabharwal, Towards
+-- understanding and harnessing the potential of clause learning, JAIR 22, 2004). Clauses are read as
+-- sets of literals throughout.
 use Rattle.std.specs.Prelude.{◌≡◌, ℕ, ◌-◌, ◌<◌, ◌≤◌, ◌^◌, Bool, true, false, ◌==◌, ◌&&◌, not, List, [], ◌∷◌, ◌++◌, length, take, filter, Option, Some, None, if◌then◌else◌, slice_index_or}
 use Rattle.std.specs.List.{list_any, list_all}
 use Rattle.std.specs.Option.{option_and_then, option_to_list, ForSome, IsSomeAnd, is_some}
@@ -47,15 +53,18 @@ results_from book (s ∷ ss) = option_to_list (result_of book s) ++ results_from
 abbrev pub results : Clauses → List Step → List Clause
 results arena log = results_from (input arena log) log
 
--- step k derives an id that no step before it derives, has a result, and if the id is live it holds just that result
+-- Step k derives an id of the arena that no step before it derives. Its chain has a result, and where
+-- the id is live the arena has just that set there.
 abbrev pub IsSoundStep : Clauses → List Step → ℕ → Step → Type 0
 IsSoundStep arena log k s =
     (derives (take k log) s.derived.0 ≡ false) × (s.derived.0 < length arena)
     × IsSomeAnd (result_of (book_before arena log k) s) (λ r. ForSome (clause_at arena s.derived.0) (λ c. is_same r c ≡ true))
 
+-- each step is sound, by the inputs and the chains alone
 abbrev pub IsSound : Clauses → List Step → Type 0
 IsSound arena log = (k : ℕ) (d : Step) → k < length log → IsSoundStep arena log k (slice_index_or log k d)
 
+-- sound, and no two results are the same set
 abbrev pub IsValid : Clauses → List Step → Type 0
 IsValid arena log = IsSound arena log × AreDifferent (results arena log)
 

@@ -1,4 +1,5 @@
--- Partial assignments, and what unit propagation finds in a clause under one.
+-- Partial assignments, and what unit propagation finds in a clause under one (Handbook of
+-- Satisfiability, 2009, chapter 4).
 use Rattle.std.specs.Prelude.{◌≡◌, Bool, true, false, not, ◌&&◌, ◌||◌, ◌==◌, length}
 use Rattle.std.specs.List.{list_any, list_all}
 use Rattle.clause_arena.specs.declared.Lit.{Lit}

@@ -143,7 +143,8 @@ pub fn ends_empty(arena: &ClauseArena, log: &Log) -> bool
     arena.lits(log.derived(log.len() - 1)).is_empty()
 }
 
-/// Whether the log is valid and all its ids are live; else the first step that breaks a rule.
+/// Checks a whole log. `Ok` comes just for a valid log all of whose ids are live, and `Bad` has the
+/// number of the first step that breaks a rule.
 pub fn check(alloc: Global, arena: &ClauseArena, log: &Log) -> Result<Checked, CheckEnd>
     ensures valid { OnOk result (IsValid arena.now.clauses log.now) }
     ensures live { OnOk result (AreLive arena.now.clauses log.now) }

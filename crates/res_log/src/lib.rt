@@ -1,4 +1,5 @@
-// Logs of resolution steps, and their check.
+//! A log of resolution derivations, and checkers for it, so that a refutation can be believed without
+//! believing the solver that found it.
 #![tactic(auto)]
 
 ghost use Rattle.std.specs.Prelude.{◌≡◌, ◌<◌, ◌≤◌, ◌↔◌, [], ◌∷◌, ◌++◌, length, IsTrue, OnOk, OnErr, slice_index_or, slice_range};
@@ -19,9 +20,10 @@ use std::alloc::{AllocError, Global};
 use std::marker::Model;
 
 /// A clause that a chain resolves with, and on which variable.
-#[derive(Clone, Copy)]
+#[derive(Clone, Copy, PartialEq, Eq, Debug)]
 pub struct ChainStep {
     pub clause: ClauseId,
+    /// The variable that the resolvent has no longer.
     pub pivot: u32,
 }
 
@@ -62,6 +64,7 @@ impl Model for Log {
 }
 
 impl Log {
+    /// A log of no step. It takes no memory.
     pub fn new(alloc: Global) -> Log
         ensures { result ≡ [] }
     {
@@ -132,17 +135,21 @@ impl Log {
     }
 }
 
-/// What a valid log shows.
-#[derive(Clone, Copy)]
+/// What the check of a log found.
+#[derive(Clone, Copy, PartialEq, Eq, Debug)]
 pub struct Checked {
+    /// How many steps the log has.
     pub steps: u64,
+    /// Whether the last result is the empty clause, or there is no step and an input is empty.
     pub ends_empty: bool,
 }
 
-/// The first step that breaks a rule, or no memory.
-#[derive(Clone, Copy)]
+/// Why a check has no answer.
+#[derive(Clone, Copy, PartialEq, Eq, Debug)]
 pub enum CheckEnd {
+    /// The first step that breaks a rule, counted from 0.
     Bad(u64),
+    /// There was no memory for the check.
     Memory,
 }
 
@@ -160,3 +167,6 @@ pub fn length_law()
 pub fn exact_law()
     ensures { ExactLaw }
 {}
+
+#[cfg(test)]
+mod tests;

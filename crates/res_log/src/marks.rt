@@ -1,14 +1,21 @@
 //! A clause as one mark for each variable: a chain is resolved in time linear in its clauses.
-ghost use Rattle.std.specs.Prelude.{◌≡◌, ℕ, ◌<◌, ◌++◌, ◌↔◌, true, None, Some, length, slice_set, slice_index_or, vec_len, IsTrue, IfOk, OnOk, OnErr};
+ghost use Rattle.std.specs.Prelude.{◌≡◌, ℕ, ◌<◌, ◌++◌, ◌↔◌, true, not, None, Some, length, slice_set, slice_index_or, vec_len, IsTrue, IfOk, OnOk, OnErr};
 ghost use Rattle.std.specs.List.{list_all};
 ghost use Rattle.std.specs.Bool.{MatchBool, OnTrue};
 ghost use Rattle.std.specs.Option.{IsSomeAnd};
-ghost use Rattle.clause_arena.specs.Clause.{Clause, opposite, is_same, is_tautology, without, resolve};
+ghost use Rattle.clause_arena.specs.Clause.{Clause, opposite, is_same, is_tautology, has_only, without, resolve};
 ghost use Rattle.res_log.specs.Marks.{sign_at, is_marked, Marks, IsBlank, Sets, Adds};
 
 use clause_arena::{Lit, stands_alone};
 use std::alloc::{AllocError, Global};
 use std::marker::Model;
+
+/// Whether the variable stands in the clause with the opposite sign alone.
+fn has_opposite(clause: &[Lit], var: u32, negative: bool) -> bool
+    ensures { result ≡ has_only (not negative) clause.now var }
+{
+    stands_alone(!negative, clause, var)
+}
 
 /// A clause that holds no literal and its negation.
 #[derive(Drop)]
@@ -145,7 +152,7 @@ impl MarkedClause {
         let Some(negative) = self.sign_of(pivot) else {
             return Ok(false);
         };
-        if !stands_alone(!negative, clause, pivot) {
+        if !has_opposite(clause, pivot, negative) {
             return Ok(false);
         }
         self.remove(pivot);

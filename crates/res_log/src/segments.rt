@@ -71,6 +71,7 @@ impl Model for Segments {
 }
 
 impl Segments {
+    /// No step was checked yet.
     pub fn new(alloc: Global) -> Segments
         ensures { result ≡ 0 }
     {

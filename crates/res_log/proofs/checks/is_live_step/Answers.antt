@@ -6,7 +6,7 @@ use Rattle.clause_arena.specs.declared.ClauseId.{ClauseId}
 use Rattle.clause_arena.specs.Clause.{clause_at}
 use Rattle.res_log.specs.declared.ChainStep.{ChainStep}
 use Rattle.res_log.proofs.Steps.{bare, live-derived, live-first, live-rest}
-use Rattle.res_log.proofs.Tests.{found, not-empty, test-none, test-same}
+use Rattle.res_log.proofs.StepTests.{found, not-empty, test-none, test-same}
 use Rattle.res_log.proofs.checks.is_live_step.Goals as goal
 
 pub lits-requires : goal.lits-requires

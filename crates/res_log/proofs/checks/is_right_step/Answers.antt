@@ -6,7 +6,7 @@ use Rattle.clause_arena.specs.Clause.{clause_at}
 use Rattle.res_log.specs.Keys.{Remembers}
 use Rattle.res_log.specs.Shelf.{live_test, lists, is_new}
 use Rattle.res_log.proofs.Steps.{bare, live-derived}
-use Rattle.res_log.proofs.Tests.{new-list, lists-more}
+use Rattle.res_log.proofs.StepTests.{new-list, lists-more}
 use Rattle.res_log.proofs.checks.is_right_step.Goals as goal
 
 pub lits-requires : goal.lits-requires

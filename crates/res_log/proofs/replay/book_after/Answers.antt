@@ -1,10 +1,9 @@
-use Rattle.std.proofs.Common.{◌≡◌, ◌+◌, ◌<◌, length, ℕ, Vec, set, sym, ap, ◌∙◌, subst, arith}
+use Rattle.std.proofs.Common.{◌<◌, length, Vec, ap, ◌∙◌, arith}
 use Rattle.std.specs.Option.{option_map}
 use Rattle.std.specs.declared.alloc.Global.{Global}
 use Rattle.std.proofs.lemmas.List.{length-set}
 use Rattle.clause_arena.specs.declared.Lit.{Lit}
 use Rattle.clause_arena.specs.Clause.{Clauses, clause_at}
-use Rattle.res_log.specs.Log.{book_before}
 use Rattle.res_log.proofs.Replays.{enter-more, derived-in}
 use Rattle.res_log.proofs.replay.book_after.Goals as goal
 

@@ -1,12 +1,10 @@
-use Rattle.std.proofs.Common.{◌≡◌, ℕ, eqb, ◌<◌, ◌-◌, length, List, Some, None, Vec, Option, get_or, sym, ap, ◌∙◌, subst, arith, IsTrue, false, true}
+use Rattle.std.proofs.Common.{ℕ, eqb, ◌<◌, ◌-◌, length, Vec, get_or, sym, ap, ◌∙◌, arith}
 use Rattle.std.specs.Option.{option_map}
 use Rattle.std.specs.declared.alloc.Global.{Global}
-use Rattle.std.proofs.lemmas.Bool.{false≢true}
 use Rattle.clause_arena.specs.declared.ClauseId.{ClauseId}
 use Rattle.clause_arena.specs.declared.Lit.{Lit}
-use Rattle.clause_arena.specs.Clause.{Clause, clause_at}
-use Rattle.res_log.specs.Step.{Step}
-use Rattle.res_log.specs.Log.{book_before, result_of}
+use Rattle.clause_arena.specs.Clause.{clause_at}
+use Rattle.res_log.specs.Log.{book_before}
 use Rattle.res_log.proofs.Replays.{result-along, last-empty, last-some}
 use Rattle.res_log.proofs.Steps.{bare}
 use Rattle.res_log.proofs.replay.is_last_empty.Goals as goal

@@ -1,6 +1,5 @@
-use Rattle.std.proofs.Common.{◌≡◌, ◌<◌, ◌≤◌, ◌+◌, ℕ, List, length, subst, sym, ◌∙◌, arith}
+use Rattle.std.proofs.Common.{◌≤◌, length, sym, ◌∙◌, arith}
 use Rattle.std.proofs.lemmas.Bool.{OnTrue_at}
-use Rattle.res_log.specs.Step.{Step}
 use Rattle.res_log.proofs.Right.{next-bad, sound-more, live-more}
 use Rattle.res_log.proofs.segments.check_from.Goals as goal
 

@@ -1,15 +1,10 @@
-use Rattle.std.proofs.Common.{◌≡◌, ◌<◌, ◌-◌, ℕ, Bool, true, false, List, [], ◌∷◌, length, get_or, refl, sym, ap, ◌∙◌, subst, arith}
+use Rattle.std.proofs.Common.{◌≡◌, ◌-◌, ℕ, true, length, get_or, sym, ap, ◌∙◌, subst}
 use Rattle.std.specs.Option.{is_some}
-use Rattle.std.proofs.lemmas.Bool.{both_ways}
 use Rattle.clause_arena.specs.declared.ClauseId.{ClauseId}
 use Rattle.clause_arena.specs.Clause.{clause_at}
 use Rattle.res_log.specs.Step.{Step}
-use Rattle.res_log.proofs.Steps.{bare}
+use Rattle.res_log.proofs.Steps.{bare, some-step}
 use Rattle.res_log.proofs.segments.is_last_live.Goals as goal
-
-some_step : (log : List Step) (b : Bool) → (log ≡ [] → b ≡ true) → b ≡ false → 0 < length log
-some_step [] b f h = absurd (both_ways b h (f refl))
-some_step (s ∷ ss) b f h = omega arith
 
 pub returns-else-is_empty : goal.returns-else-is_empty
 returns-else-is_empty c =
@@ -19,5 +14,5 @@ returns-else-is_empty c =
       λ f.
           let d = bare c.derived.result in
           c.is_live.ensures ∙ subst (λ (x : ClauseId). is_some (clause_at c.args.arena.now.clauses x.0) ≡ true) (sym (at d))
-          (f d (some_step c.args.log.now c.is_empty.result c.is_empty.ensures.1 c.if-is_empty.false)),
+          (f d (some-step c.args.log.now c.is_empty.result c.is_empty.ensures.1 c.if-is_empty.false)),
     )

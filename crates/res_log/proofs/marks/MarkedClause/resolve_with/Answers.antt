@@ -11,5 +11,5 @@ map-ok (Err e) P Q f h = h
 pub returns : goal.returns
 returns c = λ d h.
     map-ok c.add_without.result _ _
-    (λ b g. resolved c.in-Some.negative c.args.self.now _ d c.args.clause.now c.args.pivot b h (sym c.sign_of.ensures ∙ c.in-Some.is) (sym c.stands_alone.ensures ∙ c.if-not-stands_alone.false) g)
+    (λ b g. resolved c.in-Some.negative c.args.self.now _ d c.args.clause.now c.args.pivot b h (sym c.sign_of.ensures ∙ c.in-Some.is) (sym c.has_opposite.ensures ∙ c.if-not-has_opposite.false) g)
     (c.add_without.ensures (without c.args.pivot d) (removed c.args.self.now c.remove.new.self d c.args.pivot h c.remove.ensures))

@@ -1,0 +1,16 @@
+pub mod Truths
+pub mod Growth
+pub mod Numbers
+pub mod BitLaws
+pub mod Steps
+pub mod Wiring
+pub mod SumLaws
+pub mod Reducing
+pub mod ProductLaws
+pub mod ShiftLaws
+pub mod ShiftSteps
+pub mod QuotientLaws
+pub mod SignedLaws
+pub mod ShapeLaws
+pub mod Bounds
+pub mod NodeLaws

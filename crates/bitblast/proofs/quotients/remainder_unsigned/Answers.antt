@@ -1,0 +1,7 @@
+use Rattle.bitblast.proofs.QuotientLaws.{unsigned_remainder}
+use Rattle.bitblast.proofs.quotients.remainder_unsigned.Goals as goal
+
+pub returns : goal.returns
+returns c =
+    unsigned_remainder _ _ _ _ c.args.left.now c.args.right.now c.in_ok-division.division.quotient.items c.in_ok-division.division.rest.items _ _ _ c.requires.widths c.deref.ensures.0
+    c.in_ok-division.ensures c.in_ok-proper.ensures c.in_ok-made.ensures

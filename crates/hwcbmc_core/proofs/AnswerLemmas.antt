@@ -1,0 +1,127 @@
+-- From what each part of the way ensures to the answer's being right.
+use Rattle.std.proofs.Common.{◌≡◌, ◌≢◌, ℕ, ◌<◌, ◌≤◌, List, length, Option, None, Some, inl, inr, ap, sym, ◌∙◌, subst, arith, refl}
+use Rattle.std.specs.Prelude.{IfSome, string_bytes}
+use Rattle.io_edge.specs.Faults.{Rose}
+use Rattle.io_edge.specs.declared.reading.ReadEnd.{ReadEnd}
+use Rattle.io_edge.specs.declared.reading.ReadEnd.TheVariants as ends
+use Rattle.src_text.specs.declared.refusal.Lang.TheVariants.{C, V}
+use Rattle.hwcbmc_core.specs.declared.options.Options.{Options}
+use Rattle.hwcbmc_core.specs.declared.answer.Answer.{Answer}
+use Rattle.hwcbmc_core.specs.declared.answer.Answer.TheVariants.{Usage, ReadFault, Refused, Failed, Successful, Memory}
+use Rattle.hwcbmc_core.specs.declared.sources.Program.{Program}
+use Rattle.hwcbmc_core.specs.declared.sources.Counter.{Counter}
+use Rattle.hwcbmc_core.specs.Sources.{IsProgram, IsCounter}
+use Rattle.hwcbmc_core.proofs.SourceLemmas.{same_program, same_counter}
+use Rattle.hwcbmc_core.specs.Answers.{Reading, FitsLength, AreRead, c_too_long, v_too_long, c_unsupported, v_unsupported, unread, HoldsOf, Judges, IsTraceOfBreak, IsJudged, IsRightFor}
+use Rattle.hwcbmc_core.specs.Runs.{Property, CanBreak}
+
+-- what a reading that failed leaves
+pub record LeavesUnread (name : List ℕ) (told : Option (List ℕ)) (before after : Reading) (end : ReadEnd) : Type 0 where
+  pub rose : end ≡ ends.Failed → Rose before.faults after.faults
+  pub fault : end ≡ ends.Failed → 0 < after.faults_since_start
+  pub started : end ≢ ends.Memory → after.started ≡ Some name
+  pub taken : end ≡ ends.TooLong → after.taken ≡ 1048577
+  pub long : end ≡ ends.TooLong → IfSome told (λ bytes. 1048576 < length bytes)
+  pub same_count : end ≢ ends.Failed → after.faults ≡ before.faults
+  pub no_fault : end ≢ ends.Failed → end ≢ ends.Memory → after.faults_since_start ≡ 0
+
+failed_apart : ends.Failed ≡ ends.Memory → ⊥
+failed_apart is = cc
+
+long_apart : ends.TooLong ≡ ends.Memory → ⊥
+long_apart is = cc
+
+long_sound : ends.TooLong ≡ ends.Failed → ⊥
+long_sound is = cc
+
+pub c_unread : (options : Options) (told : List ℕ → Option (List ℕ)) (before after : Reading) (name : List ℕ) (end : ReadEnd) → name ≡ options.c_file
+    → LeavesUnread name (told name) before after end → IsRightFor options told before after (unread options.c_file C end)
+c_unread options told before after name end is leaves =
+    let P : List ℕ → Type 0 = λ n. LeavesUnread n (told n) before after end in at_file end (subst P is leaves)
+  where
+    at_file : (end : ReadEnd) → LeavesUnread options.c_file (told options.c_file) before after end → IsRightFor options told before after (unread options.c_file C end)
+    at_file ends.Failed l = (record { rose = l.rose refl; started = l.started failed_apart; since_start = l.fault refl }, inl refl)
+    at_file ends.TooLong l = c_too_long (record { started = l.started long_apart; taken = l.taken refl; none_since_start = l.no_fault long_sound long_apart; no_fault = l.same_count long_sound; told_long = l.long refl })
+    at_file ends.Memory l = tt
+
+pub v_unread : (options : Options) (told : List ℕ → Option (List ℕ)) (before after : Reading) (name : List ℕ) (end : ReadEnd) → name ≡ options.v_file
+    → FitsLength (told options.c_file) → LeavesUnread name (told name) before after end → IsRightFor options told before after (unread options.v_file V end)
+v_unread options told before after name end is fits leaves =
+    let P : List ℕ → Type 0 = λ n. LeavesUnread n (told n) before after end in at_file end (subst P is leaves)
+  where
+    at_file : (end : ReadEnd) → LeavesUnread options.v_file (told options.v_file) before after end → IsRightFor options told before after (unread options.v_file V end)
+    at_file ends.Failed l = (record { rose = l.rose refl; started = l.started failed_apart; since_start = l.fault refl }, inr (refl, fits))
+    at_file ends.TooLong l = v_too_long fits (record { started = l.started long_apart; taken = l.taken refl; none_since_start = l.no_fault long_sound long_apart; no_fault = l.same_count long_sound; told_long = l.long refl })
+    at_file ends.Memory l = tt
+
+-- a text that was read whole is what is told, and no longer than a file may be
+pub fits_read : (told : Option (List ℕ)) (text : List ℕ) → IfSome told (λ bytes. text ≡ bytes) → length text ≤ 1048576 → FitsLength told
+fits_read None text whole fits = tt
+fits_read (Some bytes) text whole fits = omega (arith, ap length whole)
+
+told_of : (P : List ℕ → Type 0) (told : Option (List ℕ)) (text : List ℕ) → IfSome told (λ bytes. text ≡ bytes) → P text → IfSome told P
+told_of P None text whole holds = tt
+told_of P (Some bytes) text whole holds = subst P whole holds
+
+judges_told : (options : Options) (told : List ℕ → Option (List ℕ)) (c_text v_text : List ℕ) (Holds : Program → Counter → Type 0)
+    → IfSome (told options.c_file) (λ bytes. c_text ≡ bytes) → IfSome (told options.v_file) (λ bytes. v_text ≡ bytes)
+    → HoldsOf c_text v_text Holds → Judges options told Holds
+judges_told options told c_text v_text Holds c_whole v_whole judged =
+    told_of (λ c. IfSome (told options.v_file) (λ v. HoldsOf c v Holds)) (told options.c_file) c_text c_whole
+    (told_of (λ v. HoldsOf c_text v Holds) (told options.v_file) v_text v_whole judged)
+
+-- what holds of the pair that was read holds of each pair that the texts are
+pub holds_of : (c_text v_text : List ℕ) (program : Program) (counter : Counter) (Holds : Program → Counter → Type 0)
+    → IsProgram c_text program → IsCounter v_text counter → Holds program counter → HoldsOf c_text v_text Holds
+holds_of c_text v_text program counter Holds is_program is_counter holds = (
+  (program, is_program),
+  (counter, is_counter),
+  λ other_program other_counter other_is other_is_counter.
+      let P : Program → Type 0 = λ x. Holds x other_counter in
+      let Q : Counter → Type 0 = λ y. Holds program y in
+      subst P (same_program c_text program other_program is_program other_is) (subst Q (same_counter v_text counter other_counter is_counter other_is_counter) holds),
+)
+
+-- what is right for the texts is right for the files
+pub judged_right : (options : Options) (told : List ℕ → Option (List ℕ)) (before after : Reading) (c_text v_text : List ℕ) (answer : Answer)
+    → AreRead options told before after → IfSome (told options.c_file) (λ bytes. c_text ≡ bytes) → IfSome (told options.v_file) (λ bytes. v_text ≡ bytes)
+    → IsJudged options c_text v_text answer → IsRightFor options told before after answer
+judged_right options told before after c_text v_text Usage read c_whole v_whole judged = judged
+judged_right options told before after c_text v_text (ReadFault file) read c_whole v_whole judged = absurd judged
+judged_right options told before after c_text v_text (Refused file refusal) read c_whole v_whole judged = elim judged [
+  | inl c_refused ↦ rw (c_refused.0, c_refused.1)
+      (c_unsupported read (told_of (λ text. (program : Program) → ¬ (IsProgram text program)) (told options.c_file) c_text c_whole c_refused.2))
+  | inr v_refused ↦ rw (v_refused.0, v_refused.1)
+      (v_unsupported read (told_of (λ text. (program : Program) × IsProgram text program) (told options.c_file) c_text c_whole v_refused.2)
+      (told_of (λ text. (counter : Counter) → ¬ (IsCounter text counter)) (told options.v_file) v_text v_whole v_refused.3))
+]
+judged_right options told before after c_text v_text (Failed trace) read c_whole v_whole judged =
+    (read, judges_told options told c_text v_text (λ program counter. IsTraceOfBreak program counter options (string_bytes trace)) c_whole v_whole judged)
+judged_right options told before after c_text v_text Successful read c_whole v_whole judged =
+    (read, judges_told options told c_text v_text (λ program counter. (property : Property) → ¬ (CanBreak program counter options.bounds property)) c_whole v_whole judged)
+judged_right options told before after c_text v_text Memory read c_whole v_whole judged = tt
+
+-- a second file that failed, after one that was read without a fault
+pub leaves_after : (name : List ℕ) (told told_between : List ℕ → Option (List ℕ)) (before between after : Reading) (end : ReadEnd) → told_between ≡ told
+    → between.faults ≡ before.faults → LeavesUnread name (told_between name) between after end → LeavesUnread name (told name) before after end
+leaves_after name told told_between before between after end told_is same leaves =
+    let P : Option (List ℕ) → Type 0 = λ t. IfSome t (λ bytes. 1048576 < length bytes) in
+    let R : ℕ → Type 0 = λ n. Rose n after.faults in
+    record {
+      rose = λ is. subst R same (leaves.rose is);
+      fault = leaves.fault;
+      started = leaves.started;
+      taken = leaves.taken;
+      long = λ is. subst P (ap (λ (t : List ℕ → Option (List ℕ)). t name) told_is) (leaves.long is);
+      same_count = λ sound. leaves.same_count sound ∙ same;
+      no_fault = leaves.no_fault;
+    }
+
+-- what was read of the file that the options name
+pub read_whole : (told told_before : List ℕ → Option (List ℕ)) (name file text slice : List ℕ) → told_before ≡ told → name ≡ file → slice ≡ text
+    → IfSome (told_before name) (λ bytes. text ≡ bytes) → IfSome (told file) (λ bytes. slice ≡ bytes)
+read_whole told told_before name file text slice told_is name_is slice_is whole =
+    let P : List ℕ → Type 0 = λ n. IfSome (told n) (λ bytes. text ≡ bytes) in
+    let Q : Option (List ℕ) → Type 0 = λ t. IfSome t (λ bytes. text ≡ bytes) in
+    let S : List ℕ → Type 0 = λ xs. IfSome (told file) (λ bytes. xs ≡ bytes) in
+    subst S (sym slice_is) (subst P name_is (subst Q (ap (λ (t : List ℕ → Option (List ℕ)). t name) told_is) whole))

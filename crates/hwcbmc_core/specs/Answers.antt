@@ -1,0 +1,136 @@
+-- Which answer is right for the words and the files.
+use Rattle.std.specs.Prelude.{◌≡◌, ℕ, ◌<◌, ◌≤◌, ◌⊎◌, List, length, Option, None, Some, IfSome}
+use Rattle.std.specs.String.{string_bytes}
+use Rattle.io_edge.specs.Faults.{Rose}
+use Rattle.src_text.specs.declared.refusal.Refusal.{Refusal}
+use Rattle.src_text.specs.declared.refusal.Lang.{Lang}
+use Rattle.src_text.specs.declared.refusal.Lang.TheVariants.{C, V}
+use Rattle.src_text.specs.declared.kind.Kind.{Kind}
+use Rattle.src_text.specs.declared.kind.Kind.TheVariants.{TooLong, Unsupported}
+use Rattle.io_edge.specs.declared.reading.ReadEnd.{ReadEnd}
+use Rattle.io_edge.specs.declared.reading.ReadEnd.TheVariants as ends
+use Rattle.hwcbmc_core.specs.declared.options.Options.{Options}
+use Rattle.hwcbmc_core.specs.declared.sources.Program.{Program}
+use Rattle.hwcbmc_core.specs.declared.sources.Counter.{Counter}
+use Rattle.hwcbmc_core.specs.declared.answer.Answer.{Answer}
+use Rattle.hwcbmc_core.specs.declared.answer.Answer.TheVariants.{Usage, ReadFault, Refused, Failed, Successful, Memory}
+use Rattle.hwcbmc_core.specs.Words.{options_of}
+use Rattle.hwcbmc_core.specs.Sources.{IsProgram, IsCounter}
+use Rattle.hwcbmc_core.specs.Runs.{Property, Broken, run_of, CanBreak}
+use Rattle.hwcbmc_core.specs.Trace.{trace_text}
+
+-- what the files tell of their reading: the name last started, the bytes taken of it and its faults, and all faults
+pub record Reading : Type 0 where
+  pub started : Option (List ℕ)
+  pub taken : ℕ
+  pub faults_since_start : ℕ
+  pub faults : ℕ
+
+-- a refusal at the beginning of a text
+abbrev pub at_beginning : Lang → Kind → Refusal
+at_beginning lang kind = record { lang = lang; place = record { line = 1; column = 1 }; kind = kind }
+
+-- No fault came.
+abbrev pub NoFault : Reading → Reading → Type 0
+NoFault before after = after.faults ≡ before.faults
+
+-- A fault came, of this file, which is the last that was started.
+pub record IsFaulty (file : List ℕ) (before after : Reading) : Type 0 where
+  pub rose : Rose before.faults after.faults
+  pub started : after.started ≡ Some file
+  pub since_start : 0 < after.faults_since_start
+
+-- One byte more was taken of this file than a file may have, without a fault.
+pub record IsTooLong (file : List ℕ) (told : Option (List ℕ)) (before after : Reading) : Type 0 where
+  pub started : after.started ≡ Some file
+  pub taken : after.taken ≡ 1048577
+  pub none_since_start : after.faults_since_start ≡ 0
+  pub no_fault : NoFault before after
+  pub told_long : IfSome told (λ bytes. 1048576 < length bytes)
+
+-- The file isn't too long, as far as its bytes are told.
+abbrev pub FitsLength : Option (List ℕ) → Type 0
+FitsLength told = IfSome told (λ bytes. length bytes ≤ 1048576)
+
+-- Both files were read to their ends, the Verilog file last.
+pub record AreRead (options : Options) (told : List ℕ → Option (List ℕ)) (before after : Reading) : Type 0 where
+  pub started : after.started ≡ Some options.v_file
+  pub taken : after.taken ≤ 1048576
+  pub none_since_start : after.faults_since_start ≡ 0
+  pub no_fault : NoFault before after
+  pub c_fits : FitsLength (told options.c_file)
+  pub v_fits : FitsLength (told options.v_file)
+
+-- The first refusal of a file, in order: too long, C first; then not of its written form, C first.
+pub data IsFirstRefusal (options : Options) (told : List ℕ → Option (List ℕ)) (before after : Reading) : List ℕ → Refusal → Type 0 where
+  c_too_long : IsTooLong options.c_file (told options.c_file) before after
+      → IsFirstRefusal options told before after options.c_file (at_beginning C TooLong)
+  v_too_long : FitsLength (told options.c_file) → IsTooLong options.v_file (told options.v_file) before after
+      → IsFirstRefusal options told before after options.v_file (at_beginning V TooLong)
+  c_unsupported : AreRead options told before after
+      → IfSome (told options.c_file) (λ text. (program : Program) → ¬ (IsProgram text program))
+      → IsFirstRefusal options told before after options.c_file (at_beginning C Unsupported)
+  v_unsupported : AreRead options told before after
+      → IfSome (told options.c_file) (λ text. (program : Program) × IsProgram text program)
+      → IfSome (told options.v_file) (λ text. (counter : Counter) → ¬ (IsCounter text counter))
+      → IsFirstRefusal options told before after options.v_file (at_beginning V Unsupported)
+
+-- Both texts are of their written forms, and what is said holds of the pair that they are.
+abbrev pub HoldsOf : List ℕ → List ℕ → (Program → Counter → Type 0) → Type 0
+HoldsOf c_text v_text Holds =
+    ((program : Program) × IsProgram c_text program) × ((counter : Counter) × IsCounter v_text counter)
+    × ((program : Program) (counter : Counter) → IsProgram c_text program → IsCounter v_text counter → Holds program counter)
+
+-- The same of the two files, where their bytes are told.
+abbrev pub Judges : Options → (List ℕ → Option (List ℕ)) → (Program → Counter → Type 0) → Type 0
+Judges options told Holds =
+    IfSome (told options.c_file) (λ c_text. IfSome (told options.v_file) (λ v_text. HoldsOf c_text v_text Holds))
+
+-- The text is the trace of a run that breaks the property which it names.
+abbrev pub IsTraceOfBreak : Program → Counter → Options → List ℕ → Type 0
+IsTraceOfBreak program counter options text =
+    (property : Property) × (choices : List ℕ)
+    × ((run_of program counter options.bounds choices).outcome ≡ Broken property)
+    × (text ≡ trace_text property (run_of program counter options.bounds choices).events)
+
+-- the answer where a file isn't there as a whole
+abbrev pub unread : List ℕ → Lang → ReadEnd → Answer
+unread file lang ends.Failed = ReadFault file
+unread file lang ends.TooLong = Refused file (at_beginning lang TooLong)
+unread file lang ends.Memory = Memory
+
+-- The answer is right for these texts.
+abbrev pub IsJudged : Options → List ℕ → List ℕ → Answer → Type 0
+IsJudged options c_text v_text Usage = ⊥
+IsJudged options c_text v_text (ReadFault file) = ⊥
+IsJudged options c_text v_text (Refused file refusal) =
+    ((file ≡ options.c_file) × (refusal ≡ at_beginning C Unsupported) × ((program : Program) → ¬ (IsProgram c_text program)))
+    ⊎ ((file ≡ options.v_file) × (refusal ≡ at_beginning V Unsupported) × ((program : Program) × IsProgram c_text program)
+    × ((counter : Counter) → ¬ (IsCounter v_text counter)))
+IsJudged options c_text v_text (Failed trace) =
+    HoldsOf c_text v_text (λ program counter. IsTraceOfBreak program counter options (string_bytes trace))
+IsJudged options c_text v_text Successful =
+    HoldsOf c_text v_text (λ program counter. (property : Property) → ¬ (CanBreak program counter options.bounds property))
+IsJudged options c_text v_text Memory = Unit {0}
+
+-- The answer is right for words that have these options.
+abbrev pub IsRightFor : Options → (List ℕ → Option (List ℕ)) → Reading → Reading → Answer → Type 0
+IsRightFor options told before after Usage = ⊥
+IsRightFor options told before after (ReadFault file) =
+    IsFaulty file before after × ((file ≡ options.c_file) ⊎ ((file ≡ options.v_file) × FitsLength (told options.c_file)))
+IsRightFor options told before after (Refused file refusal) = IsFirstRefusal options told before after file refusal
+IsRightFor options told before after (Failed trace) =
+    AreRead options told before after
+    × Judges options told (λ program counter. IsTraceOfBreak program counter options (string_bytes trace))
+IsRightFor options told before after Successful =
+    AreRead options told before after
+    × Judges options told (λ program counter. (property : Property) → ¬ (CanBreak program counter options.bounds property))
+IsRightFor options told before after Memory = Unit {0}
+
+-- The answer is right for the words. Want of memory may come at any time; else the words' fault comes exactly
+-- where they have no options, and then nothing is read.
+abbrev pub IsRight : List (List ℕ) → (List ℕ → Option (List ℕ)) → Reading → Reading → Answer → Type 0
+IsRight words told before after Memory = Unit {0}
+IsRight words told before after Usage = (options_of words ≡ None) × (after ≡ before)
+IsRight words told before after answer =
+    (options : Options) × (options_of words ≡ Some options) × IsRightFor options told before after answer

@@ -1,0 +1,7 @@
+pub mod Words
+pub mod Numbers
+pub mod Sources
+pub mod Runs
+pub mod Trace
+pub mod Answers
+pub mod Delivery

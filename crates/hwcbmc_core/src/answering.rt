@@ -1,0 +1,67 @@
+//! The answer of the command, from its words and its files.
+
+ghost use Rattle.std.specs.Prelude.{◌≡◌, ◌≤◌, length, map, string_bytes};
+ghost use Rattle.hwcbmc_core.specs.Answers.{IsRight, IsRightFor, IsJudged};
+
+use crate::answer::Answer;
+use crate::judging::breaks;
+use crate::options::{Options, UsageEnd};
+use crate::sources::{read_c, read_v};
+use crate::tracing::trace;
+use crate::words::options;
+use io_edge::{Files, read_all};
+use src_text::{Kind, Lang};
+use std::alloc::{AllocError, Global};
+
+/// The words, then the files, then the verdict: the first that stands in the way is the answer.
+pub fn answer_for<F: Files>(alloc: Global, words: &[String], files: &mut F) -> Answer
+    ensures told { F.told files.new ≡ F.told files.old }
+    ensures right { IsRight (map string_bytes words.now) (F.told files.old)
+        (record { started = F.started files.old; taken = F.taken files.old; faults_since_start = F.faults_since_start files.old; faults = F.read_faults files.old })
+        (record { started = F.started files.new; taken = F.taken files.new; faults_since_start = F.faults_since_start files.new; faults = F.read_faults files.new })
+        result }
+{
+    match options(alloc, words) {
+        Ok(options) => read_files(alloc, options, files),
+        Err(UsageEnd::Usage) => Answer::Usage,
+        Err(UsageEnd::Memory) => Answer::Memory,
+    }
+}
+
+/// Reads the C file to its end, and then the Verilog file.
+fn read_files<F: Files>(alloc: Global, options: Options, files: &mut F) -> Answer
+    ensures told { F.told files.new ≡ F.told files.old }
+    ensures right { IsRightFor options (F.told files.old)
+        (record { started = F.started files.old; taken = F.taken files.old; faults_since_start = F.faults_since_start files.old; faults = F.read_faults files.old })
+        (record { started = F.started files.new; taken = F.taken files.new; faults_since_start = F.faults_since_start files.new; faults = F.read_faults files.new })
+        result }
+{
+    let c_text = match read_all(alloc, files, options.c_file.text()) {
+        Ok(text) => text,
+        Err(end) => return Answer::unread(options.c_file, Lang::C, end),
+    };
+    let v_text = match read_all(alloc, files, options.v_file.text()) {
+        Ok(text) => text,
+        Err(end) => return Answer::unread(options.v_file, Lang::V, end),
+    };
+    judge(alloc, options, &c_text, &v_text)
+}
+
+fn judge(alloc: Global, options: Options, c_text: &[u8], v_text: &[u8]) -> Answer
+    requires { length c_text.now ≤ 1048576 }
+    ensures { IsJudged options c_text.now v_text.now result }
+{
+    let Some(program) = read_c(c_text) else {
+        return Answer::refused(options.c_file, Lang::C, Kind::Unsupported);
+    };
+    let Some(counter) = read_v(v_text) else {
+        return Answer::refused(options.v_file, Lang::V, Kind::Unsupported);
+    };
+    if !breaks(program, counter, &options.bounds) {
+        return Answer::Successful;
+    }
+    match trace(alloc, program, counter) {
+        Ok(text) => Answer::Failed(text),
+        Err(AllocError) => Answer::Memory,
+    }
+}

@@ -1,0 +1,83 @@
+//! The command, from its words and the bytes of its files to its answer.
+//!
+//! The modules stand in the order that the data meets them.
+#![tactic(auto)]
+
+ghost use Rattle.std.specs.Prelude.{◌≡◌, ◌≢◌, ◌⊎◌, ℕ, List, Some, None, map, string_bytes};
+ghost use Rattle.io_edge.specs.Faults.{Rose};
+ghost use Rattle.io_edge.specs.Sink.{Appends};
+ghost use Rattle.hwcbmc_core.specs.declared.answer.Answer.{Answer};
+ghost use Rattle.hwcbmc_core.specs.Answers.{IsRight, IsTraceOfBreak, Judges};
+ghost use Rattle.hwcbmc_core.specs.Delivery.{IsDelivered};
+ghost use Rattle.hwcbmc_core.specs.Runs.{CanBreak};
+ghost use Rattle.hwcbmc_core.specs.Words.{options_of};
+
+// Words to options.
+mod options;
+mod words;
+
+// Bytes to a pair of sources. After this a pair is of the written forms.
+mod sources;
+
+// A pair and its bounds to a verdict.
+mod judging;
+
+// A failed run to its trace.
+mod tracing;
+
+// All of them in order, to an answer.
+mod answer;
+mod answering;
+
+// An answer to its text, and the text to its stream.
+mod delivering;
+
+use answering::answer_for;
+use delivering::deliver;
+use io_edge::{Files, Sink};
+use std::alloc::Global;
+
+/// Runs the command: the words after the program's name, to a status.
+///
+/// The answer is right for the words and the files, and it is delivered: its status comes with its
+/// whole text on its own stream, and status 8 with a part of that text, where that stream failed.
+pub fn run<F: Files, O: Sink, E: Sink>(
+    alloc: Global,
+    words: &[String],
+    files: &mut F,
+    out: &mut O,
+    err: &mut E,
+) -> u8
+    ensures answered { (answer : Answer)
+        × IsRight (map string_bytes words.now) (F.told files.old)
+        (record { started = F.started files.old; taken = F.taken files.old; faults_since_start = F.faults_since_start files.old; faults = F.read_faults files.old })
+        (record { started = F.started files.new; taken = F.taken files.new; faults_since_start = F.faults_since_start files.new; faults = F.read_faults files.new })
+        answer
+        × IsDelivered answer result
+        (record { written = O.written out.old; faults = O.faults out.old })
+        (record { written = O.written out.new; faults = O.faults out.new })
+        (record { written = E.written err.old; faults = E.faults err.old })
+        (record { written = E.written err.new; faults = E.faults err.new }) }
+
+    // What that says of each status.
+    ensures usage { result ≡ 64 → options_of (map string_bytes words.now) ≡ None }
+    ensures successful { result ≡ 0 → (options : _) × (options_of (map string_bytes words.now) ≡ Some options)
+        × Judges options (F.told files.old) (λ program counter. (property : _) → ¬ (CanBreak program counter options.bounds property)) }
+    ensures failed { result ≡ 10 → (options : _) × (trace : List ℕ) × (options_of (map string_bytes words.now) ≡ Some options)
+        × Judges options (F.told files.old) (λ program counter. IsTraceOfBreak program counter options trace)
+        × Appends (O.written out.old) (O.written out.new) trace }
+    ensures write_fault { result ≡ 8 → Rose (O.faults out.old) (O.faults out.new) ⊎ Rose (E.faults err.old) (E.faults err.new) }
+
+    // No fault is passed over.
+    ensures no_write_fault { result ≢ 8 → (O.faults out.new ≡ O.faults out.old) × (E.faults err.new ≡ E.faults err.old) }
+    ensures no_read_fault { result ≢ 7 → result ≢ 8 → result ≢ 9 → F.read_faults files.new ≡ F.read_faults files.old }
+
+    // Reading changes no bytes under any name.
+    ensures told { F.told files.new ≡ F.told files.old }
+{
+    let answer = answer_for(alloc, words, files);
+    deliver(alloc, &answer, out, err)
+}
+
+#[cfg(test)]
+mod tests;

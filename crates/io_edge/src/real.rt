@@ -1,0 +1,134 @@
+//! The trusted edge: the files and streams of the system. They tell no content. Every error of the
+//! system counts as a fault.
+
+ghost use Rattle.std.specs.Prelude.{◌≡◌, None};
+
+use crate::files::{Failed, Files};
+use crate::read_faults::ReadFaults;
+use crate::sink::Sink;
+use src_text::Name;
+use std::io::{Read, Write};
+use std::{fs, rt};
+
+/// The system's files.
+#[derive(Drop)]
+pub struct RealFiles<R: rt::Files> {
+    runtime: R,
+    file: Option<R::File>,
+    started: Option<Name>,
+    taken: u64,
+    faults: ReadFaults,
+}
+
+impl<R: rt::Files + Drop> RealFiles<R> {
+    /// No file is started yet.
+    pub fn new(runtime: R) -> RealFiles<R>
+        ensures none_started { result.started ≡ None }
+        ensures no_fault { result.faults.total ≡ 0 }
+    {
+        RealFiles {
+            runtime,
+            file: None,
+            started: None,
+            taken: 0,
+            faults: ReadFaults::new(),
+        }
+    }
+}
+
+impl<R: rt::Files + Drop> Files for RealFiles<R> {
+    ghost told = { λ _ _. None };
+
+    ghost started = { λ f. f.started };
+
+    ghost taken = { λ f. f.taken };
+
+    ghost read_faults = { λ f. f.faults.total };
+
+    ghost faults_since_start = { λ f. f.faults.since_start };
+
+    fn start(&mut self, name: Name) -> Result<(), Failed> {
+        let opened = fs::open(&self.runtime, name.text());
+        self.started = Some(name);
+        self.taken = 0;
+        self.faults.since_start = 0;
+        self.file = opened.ok();
+        if self.file.is_none() {
+            return Err(self.faults.count());
+        }
+        Ok(())
+    }
+
+    fn read(&mut self, buf: &mut [u8]) -> Result<usize, Failed> {
+        let Some(file) = &mut self.file else {
+            return Err(self.faults.count());
+        };
+        let Ok(count) = file.read(buf) else {
+            return Err(self.faults.count());
+        };
+        self.taken += count as u64;
+        Ok(count)
+    }
+}
+
+/// A stream of the system. Each piece is flushed before it counts as written.
+#[derive(Drop)]
+pub struct RealSink<W: Write> {
+    stream: W,
+    faults: u64,
+}
+
+impl<W: Write + Drop> RealSink<W> {
+    pub fn new(stream: W) -> RealSink<W>
+        ensures no_fault { result.faults ≡ 0 }
+    {
+        RealSink { stream, faults: 0 }
+    }
+}
+
+impl<W: Write + Drop> Sink for RealSink<W> {
+    ghost written = { λ _. None };
+
+    ghost faults = { λ s. s.faults };
+
+    fn put(&mut self, bytes: &[u8]) -> Result<usize, Failed> {
+        let count = self.stream.write(bytes).unwrap_or(0);
+        if count == 0 || self.stream.flush().is_err() {
+            self.faults = self.faults.saturating_add(1);
+            return Err(Failed);
+        }
+        Ok(count)
+    }
+}
+
+#[cfg(test)]
+mod tests {
+    use super::*;
+    use crate::reading::{ReadEnd, read_all};
+    use crate::writing::write_all;
+    use std::fs::OpenOptions;
+    use std::test::Fail;
+
+    #[test]
+    fn files_of_the_system_end_or_fail_or_are_too_long(rt: HostRuntime) -> Result<(), Fail> {
+        let mut files = RealFiles::new(rt.clone()?);
+        let empty = read_all(rt.alloc(), &mut files, "/dev/null")
+            .ok()
+            .ok_or("a fault")?;
+        assert!(rt; empty.is_empty());
+        let endless = read_all(rt.alloc(), &mut files, "/dev/zero").err();
+        assert_eq!(rt; endless, Some(ReadEnd::TooLong));
+        let missing = read_all(rt.alloc(), &mut files, "/dev/null/none").err();
+        assert_eq!(rt; missing, Some(ReadEnd::Failed));
+        Ok(())
+    }
+
+    #[test]
+    fn a_full_device_is_a_fault(rt: HostRuntime) -> Result<(), Fail> {
+        let full = OpenOptions::new().write(true).open(&rt, "/dev/full")?;
+        assert!(rt; write_all(&mut RealSink::new(full), b"text").is_err());
+        let null = OpenOptions::new().write(true).open(&rt, "/dev/null")?;
+        assert!(rt; write_all(&mut RealSink::new(null), b"text").is_ok());
+        Ok(())
+    }
+}

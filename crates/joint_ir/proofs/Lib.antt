@@ -1,0 +1,4 @@
+mod Rows
+pub mod Sizes
+pub mod StmtWeights
+pub mod Weights

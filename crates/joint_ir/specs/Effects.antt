@@ -1,0 +1,90 @@
+-- What a stretch of a run does: how it goes on or ends, what it puts to be seen, and the choices that it leaves.
+use Rattle.std.specs.Prelude.{ℕ, ◌%◌, ◌^◌, Bool, true, false, List, [], ◌∷◌, ◌++◌, Option, Some, None, ℤ}
+use Rattle.joint_ir.specs.declared.event.Event.{Event}
+use Rattle.joint_ir.specs.declared.event.Event.TheVariants.{Broke}
+use Rattle.joint_ir.specs.declared.event.Outcome.{Outcome}
+use Rattle.joint_ir.specs.declared.event.Outcome.TheVariants.{Broken}
+use Rattle.joint_ir.specs.declared.expr.TExpr.{TExpr}
+use Rattle.joint_ir.specs.declared.program.PropId.{PropId}
+use Rattle.joint_ir.specs.Values.{Answer, Value, Fault, Rows, value_of}
+use Rattle.joint_ir.specs.States.{JointState}
+
+-- which way a statement that came to its end goes on
+pub data Way : Type 0 where
+  Next : Way
+  Breaking : Way
+  Continuing : Way
+  Returning : Way
+
+-- a stretch goes on, or ends the run, or draws more choices than there are
+pub data Effect : Type 0 where
+  Goes : (way : Way) (state : JointState) (events : List Event) (rest : List ℕ) → Effect
+  Stops : (outcome : Outcome) (events : List Event) (rest : List ℕ) → Effect
+  TooFew : Effect
+
+-- what goes on from a state and the choices that are left
+abbrev pub Onward : Type 0
+Onward = JointState → List ℕ → Effect
+
+-- an effect with events put before its own
+abbrev pub preceded : List Event → Effect → Effect
+preceded events (Goes way s more c) = Goes way s (events ++ more) c
+preceded events (Stops o more c) = Stops o (events ++ more) c
+preceded events TooFew = TooFew
+
+-- goes on where a statement goes on to the next one
+abbrev pub then_do : Effect → Onward → Effect
+then_do (Goes Next s events c) go = preceded events (go s c)
+then_do (Goes Breaking s events c) go = Goes Breaking s events c
+then_do (Goes Continuing s events c) go = Goes Continuing s events c
+then_do (Goes Returning s events c) go = Goes Returning s events c
+then_do (Stops o events c) go = Stops o events c
+then_do TooFew go = TooFew
+
+-- after a turn of a loop: `continue` goes on with the loop, and `break` leaves it
+abbrev pub after_turn : Effect → Onward → Effect
+after_turn (Goes Next s events c) go = preceded events (go s c)
+after_turn (Goes Continuing s events c) go = preceded events (go s c)
+after_turn (Goes Breaking s events c) go = Goes Next s events c
+after_turn (Goes Returning s events c) go = Goes Returning s events c
+after_turn (Stops o events c) go = Stops o events c
+after_turn TooFew go = TooFew
+
+-- after the groups of a switch: `break` leaves it
+abbrev pub after_groups : Effect → Effect
+after_groups (Goes Next s events c) = Goes Next s events c
+after_groups (Goes Breaking s events c) = Goes Next s events c
+after_groups (Goes Continuing s events c) = Goes Continuing s events c
+after_groups (Goes Returning s events c) = Goes Returning s events c
+after_groups (Stops o events c) = Stops o events c
+after_groups TooFew = TooFew
+
+-- a property breaks, which ends the run
+abbrev pub broken : PropId → List ℕ → Effect
+broken p c = Stops (Broken p) (Broke p ∷ []) c
+
+-- a check of a property, where one stands at the statement
+abbrev pub check_then : Option PropId → Bool → List ℕ → Effect → Effect
+check_then None test c e = e
+check_then (Some p) true c e = e
+check_then (Some p) false c e = broken p c
+
+-- goes on with a value
+abbrev pub with_value : Answer → List ℕ → (ℤ → Effect) → Effect
+with_value (Value n) c go = go n
+with_value (Fault p) c go = broken p c
+
+-- evaluates expressions from left to right, and goes on with their values
+abbrev pub with_values : Rows → List TExpr → List ℕ → (List ℤ → Effect) → Effect
+with_values rows [] c go = go []
+with_values rows (e ∷ es) c go = with_value (value_of rows e) c (λ n. with_values rows es c (λ ns. go (n ∷ ns)))
+
+-- draws a number of so many bits: a choice modulo 2^bits
+abbrev pub draw : (bits : ℕ) → List ℕ → (ℕ → List ℕ → Effect) → Effect
+draw bits [] go = TooFew
+draw bits (n ∷ c) go = go (n % 2 ^ bits) c
+
+-- draws one number for each width
+abbrev pub draw_all : (widths : List ℕ) → List ℕ → (List ℕ → List ℕ → Effect) → Effect
+draw_all [] c go = go [] c
+draw_all (bits ∷ widths) c go = draw bits c (λ n rest. draw_all widths rest (λ ns. go (n ∷ ns)))

@@ -1,0 +1,12 @@
+pub mod Types
+pub mod Values
+pub mod States
+pub mod Views
+pub mod Effects
+pub mod Steps
+pub mod Statements
+pub mod Runs
+pub mod Weights
+pub mod Weighed
+pub mod WellFormed
+pub mod Machine

@@ -1,0 +1,10 @@
+pub mod Theory
+pub mod Alive
+pub mod Linear
+pub mod Steps
+pub mod Ends
+pub mod Check
+pub mod Fits
+pub mod Use
+pub mod PlaceSteps
+pub mod ExampleTables

@@ -1,0 +1,35 @@
+-- The lists of the tables of the examples.
+use Rattle.ll_parse.specs.Tables.{Lists}
+use Rattle.ll_parse.specs.declared.examples.TheConstants.{NESTED_HEADS, NESTED_BODIES, NESTED_SYMBOLS, NESTED_NOT_BEFORE, NESTED_ROWS, NESTED_FOLLOWS, NESTED_WITNESSES, NESTED_RANKS, NESTED_COSTS, NESTED_NULLABLE, CONDITIONAL_HEADS, CONDITIONAL_BODIES, CONDITIONAL_SYMBOLS, CONDITIONAL_NOT_BEFORE, CONDITIONAL_ROWS, CONDITIONAL_FOLLOWS, CONDITIONAL_WITNESSES, CONDITIONAL_RANKS, CONDITIONAL_COSTS, CONDITIONAL_NULLABLE}
+
+unfoldable pub NESTED : Lists
+NESTED = record {
+  start = 256;
+  heads = NESTED_HEADS;
+  bodies = NESTED_BODIES;
+  symbols = NESTED_SYMBOLS;
+  not_before = NESTED_NOT_BEFORE;
+  rows = NESTED_ROWS;
+  follows = NESTED_FOLLOWS;
+  witnesses = NESTED_WITNESSES;
+  ranks = NESTED_RANKS;
+  costs = NESTED_COSTS;
+  nullable = NESTED_NULLABLE;
+  per_token = 1;
+}
+
+unfoldable pub CONDITIONAL : Lists
+CONDITIONAL = record {
+  start = 256;
+  heads = CONDITIONAL_HEADS;
+  bodies = CONDITIONAL_BODIES;
+  symbols = CONDITIONAL_SYMBOLS;
+  not_before = CONDITIONAL_NOT_BEFORE;
+  rows = CONDITIONAL_ROWS;
+  follows = CONDITIONAL_FOLLOWS;
+  witnesses = CONDITIONAL_WITNESSES;
+  ranks = CONDITIONAL_RANKS;
+  costs = CONDITIONAL_COSTS;
+  nullable = CONDITIONAL_NULLABLE;
+  per_token = 2;
+}

@@ -1,0 +1,7 @@
+pub mod Grammar
+pub mod Tables
+pub mod Conditions
+pub mod Test
+pub mod Machine
+pub mod Places
+pub mod Examples

@@ -1,0 +1,4 @@
+pub mod DepthSteps
+pub mod Also
+pub mod PassSteps
+pub mod Runs

@@ -1,0 +1,3 @@
+pub mod Kind
+pub mod Place
+pub mod Digits

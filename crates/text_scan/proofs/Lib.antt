@@ -1,0 +1,4 @@
+pub mod PieceLemmas
+pub mod ScanSteps
+pub mod Longest
+pub mod FrontLemmas

@@ -1,0 +1,20 @@
+-- The lists of the table of the Verilog profile.
+use Rattle.std.specs.Prelude.{ℕ}
+use Rattle.ll_parse.specs.Tables.{Lists}
+use Rattle.v_grammar.specs.declared.TheConstants.{HEADS, BODIES, SYMBOLS, NOT_BEFORE, ROWS, FOLLOWS, WITNESSES, RANKS, COSTS, NULLABLE}
+
+unfoldable pub VERILOG : Lists
+VERILOG = record {
+  start = 256;
+  heads = HEADS;
+  bodies = BODIES;
+  symbols = SYMBOLS;
+  not_before = NOT_BEFORE;
+  rows = ROWS;
+  follows = FOLLOWS;
+  witnesses = WITNESSES;
+  ranks = RANKS;
+  costs = COSTS;
+  nullable = NULLABLE;
+  per_token = 18;
+}

@@ -1,0 +1,5 @@
+pub mod Graph
+pub mod Meaning
+pub mod Gates
+pub mod Guarded
+pub mod Import
