@@ -1,3 +1,5 @@
 pub mod Sets
+pub mod Each
+pub mod Once
 pub mod Count
 pub mod SpanParts

@@ -44,6 +44,10 @@ is_same c d = is_subset c d && is_subset d c
 abbrev pub IsEachOnce : Clause → Type 0
 IsEachOnce = IsDistinct lit_eq
 
+-- no variable stands twice in the list, be it with one sign or with both
+abbrev pub IsEachVariableOnce : Clause → Type 0
+IsEachVariableOnce = IsDistinct (λ a b. a.var == b.var)
+
 -- A literal and its negation are both in the clause, so that all values satisfy it (Handbook of
 -- Satisfiability, 2.2: a tautological clause).
 abbrev pub is_tautology : Clause → Bool
@@ -85,14 +89,18 @@ Clauses = List (Option Clause)
 abbrev pub clause_at : Clauses → ℕ → Option Clause
 clause_at arena id = slice_index_or arena id None
 
+-- the fact holds of each live clause
+abbrev pub EachClause : (Clause → Type 0) → Clauses → Type 0
+EachClause P arena = (id : ℕ) → ForSome (clause_at arena id) P
+
 -- The values are a model of the clauses: they satisfy each live one (DIMACS, Satisfiability suggested
--- format, 1993: a conjunction of clauses).
+-- format, 1993: a formula is the conjunction of its clauses).
 abbrev pub IsModel : (ℕ → Bool) → Clauses → Type 0
-IsModel a arena = (id : ℕ) → ForSome (clause_at arena id) (λ c. satisfies a c ≡ true)
+IsModel a arena = EachClause (λ c. satisfies a c ≡ true) arena
 
 -- no literal stands twice in a live list
 abbrev pub EachOnce : Clauses → Type 0
-EachOnce arena = (id : ℕ) → ForSome (clause_at arena id) IsEachOnce
+EachOnce arena = EachClause IsEachOnce arena
 
 -- each variable of the clause is below n
 abbrev pub is_below : ℕ → Clause → Bool

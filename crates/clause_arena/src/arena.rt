@@ -233,3 +233,119 @@ impl ClauseArena {
         self.lits.truncate(end);
     }
 }
+
+#[cfg(test)]
+mod tests {
+    use super::*;
+    use crate::is_each_once;
+    use std::test::Fail;
+
+    const A: Lit = Lit {
+        var: 0,
+        negative: false,
+    };
+
+    const B: Lit = Lit {
+        var: 1,
+        negative: true,
+    };
+
+    const C: Lit = Lit {
+        var: 2,
+        negative: false,
+    };
+
+    #[derive(Clone, Copy)]
+    enum Step {
+        Store(usize),
+        StoreReserved(usize),
+        Swap(u32, u32, u32),
+        Kill(u32),
+        Compact,
+    }
+
+    /// The clause that a row names by a number of literals.
+    fn clause_of(len: usize) -> &'static [Lit] {
+        match len {
+            0 => &[],
+            1 => &[C],
+            2 => &[A, B],
+            _ => &[A, B, C],
+        }
+    }
+
+    fn store(arena: &mut ClauseArena, lits: &[Lit], reserved: bool) -> Result<(), Fail> {
+        if arena.count() == u32::MAX || lits.len() > 3 || !is_each_once(lits) {
+            return Ok(());
+        }
+        if reserved {
+            arena.reserve(1, 3)?;
+            arena.push_reserved(lits);
+        } else {
+            arena.push(lits)?;
+        }
+        Ok(())
+    }
+
+    fn exchange(arena: &mut ClauseArena, id: ClauseId, i: u32, j: u32) {
+        if arena.is_live(id) {
+            let len = arena.lits(id).len();
+            if (i as usize) < len && (j as usize) < len {
+                arena.swap(id, i, j);
+            }
+        }
+    }
+
+    fn kill(arena: &mut ClauseArena, id: ClauseId) {
+        if id.0 < arena.count() {
+            arena.set_dead(id);
+        }
+    }
+
+    fn take(arena: &mut ClauseArena, step: Step) -> Result<(), Fail> {
+        match step {
+            Step::Store(len) => store(arena, clause_of(len), false)?,
+            Step::StoreReserved(len) => store(arena, clause_of(len), true)?,
+            Step::Swap(id, i, j) => exchange(arena, ClauseId(id), i, j),
+            Step::Kill(id) => kill(arena, ClauseId(id)),
+            Step::Compact => arena.compact(),
+        }
+        Ok(())
+    }
+
+    fn holds(arena: &ClauseArena, id: u32, clause: Option<&[Lit]>) -> bool {
+        let id = ClauseId(id);
+        match clause {
+            Some(lits) => arena.is_live(id) && arena.lits(id) == lits,
+            None => id.0 < arena.count() && arena.is_dead(id),
+        }
+    }
+
+    #[test]
+    fn ids_keep_their_clauses(rt: HostRuntime) -> Result<(), Fail> {
+        let steps = [
+            Step::Store(2),
+            Step::StoreReserved(3),
+            Step::Store(0),
+            Step::Store(3),
+            Step::Swap(1, 0, 2),
+            Step::Kill(0),
+            Step::Compact,
+            Step::StoreReserved(1),
+            Step::Swap(3, 1, 2),
+            Step::Kill(2),
+            Step::Compact,
+        ];
+        let mut arena = ClauseArena::new(rt.alloc());
+        for step in steps {
+            take(&mut arena, step)?;
+        }
+        assert_eq!(rt; arena.count(), 5);
+        assert!(rt; holds(&arena, 0, None));
+        assert!(rt; holds(&arena, 1, Some(&[C, B, A])));
+        assert!(rt; holds(&arena, 2, None));
+        assert!(rt; holds(&arena, 3, Some(&[A, C, B])));
+        assert!(rt; holds(&arena, 4, Some(&[C])));
+        Ok(())
+    }
+}

@@ -4,9 +4,9 @@
 //! say of resolution, of models and of logs is said of these lists.
 #![tactic(auto)]
 
-ghost use Rattle.std.specs.Prelude.{◌≡◌, ◌++◌, IfOk, OnOk};
+ghost use Rattle.std.specs.Prelude.{◌≡◌, ◌++◌, ◌↔◌, IfOk, OnOk, IsTrue};
 ghost use Rattle.std.specs.Option.{option_map};
-ghost use Rattle.clause_arena.specs.Clause.{has, is_subset, is_same, is_tautology, has_only, clash, without, resolve};
+ghost use Rattle.clause_arena.specs.Clause.{IsEachOnce, has, is_subset, is_same, is_tautology, has_only, clash, without, resolve};
 
 use sqlite_items::Items;
 use std::alloc::{AllocError, Global};
@@ -50,6 +50,18 @@ pub fn is_same_set(left: &[Lit], right: &[Lit]) -> bool
     ensures { result ≡ is_same left.now right.now }
 {
     is_subset_of(left, right) && is_subset_of(right, left)
+}
+
+/// Whether no literal stands twice in the list, as the arena asks of what it stores.
+pub fn is_each_once(clause: &[Lit]) -> bool
+    ensures { IsTrue result ↔ IsEachOnce clause.now }
+{
+    for (i, lit) in clause.iter().enumerate() {
+        if has_lit(&clause[i + 1..], *lit) {
+            return false;
+        }
+    }
+    true
 }
 
 /// Whether a variable and its negation are both in the clause.

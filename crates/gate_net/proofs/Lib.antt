@@ -1,1 +1,4 @@
 pub mod NetLemmas
+pub mod Growth
+pub mod Determined
+pub mod Tseitin

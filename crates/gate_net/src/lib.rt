@@ -4,6 +4,8 @@
 //! `to_clauses` turns it into clauses for a solver.
 #![tactic(auto)]
 
+mod clauses;
 mod net;
 
-pub use net::{Edge, Net};
+pub use clauses::to_clauses;
+pub use net::{Edge, Gate, Net, Node};

@@ -83,7 +83,7 @@ impl Model for Net {
 
 impl Net {
     ghost use Rattle.gate_net.specs.declared.net.Node.TheVariants.{One, Input, And};
-    ghost use Rattle.gate_net.specs.Net.{IsValuation, IsConjunction, Extends, IsPlaced};
+    ghost use Rattle.gate_net.specs.Net.{IsValuation, IsConjunction, Extends, IsPlaced, IsNet, IsDetermined};
 
     /// A net with the constant 1 alone.
     pub fn new(alloc: Global) -> Result<Net, AllocError>
@@ -117,6 +117,14 @@ impl Net {
         ensures few { result ≤ 2 ^ 31 }
     {
         self.nodes.len() as u32
+    }
+
+    /// The nodes, by number.
+    pub fn nodes(&self) -> &[Node]
+        ensures nodes { result.now ≡ self.now }
+        ensures net { IsNet result.now }
+    {
+        &self.nodes
     }
 
     /// A new node whose value is free. Where memory is refused, the net is as before.
@@ -207,5 +215,12 @@ impl Net {
             node,
             negated: false,
         })
+    }
+
+    /// Values of the inputs fix those of all nodes. It does nothing: its contract is a law.
+    pub fn values_law(&self)
+        ensures { IsDetermined self.now }
+    {
+        let _nodes = &self.nodes;
     }
 }
