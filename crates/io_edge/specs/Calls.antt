@@ -1,5 +1,5 @@
 -- Calls that are told to fail. They are numbered from 1, and the count stops at the end of 64 bits.
-use Rattle.std.specs.Prelude.{ℕ, Bool, ◌+◌, ◌-◌, ◌^◌, ◌==◌, min}
+use Rattle.std.specs.Prelude.{Bool, ◌+◌, ◌-◌, ◌^◌, ◌==◌, min}
 use Rattle.std.specs.List.{list_any}
 use Rattle.io_edge.specs.declared.calls.Calls.{Calls}
 
