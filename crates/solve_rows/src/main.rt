@@ -1,0 +1,138 @@
+//! The four clauses of two literals over two variables, solved under choosers of each kind, and the
+//! smallest sets of clauses. The rows that are printed were worked out by hand.
+#![tactic(auto)]
+
+ghost use Rattle.std.specs.Prelude.{◌≡◌, ◌<◌, true, length, IsTrue, OnOk};
+ghost use Rattle.clause_arena.specs.Clause.{is_below};
+ghost use Rattle.cdcl.specs.Trail.{AllClauses};
+
+mod picks;
+
+use cdcl::{ActivityChooser, Chooser, OrderChooser, Solved, solve};
+use clause_arena::{ClauseArena, ClauseId, Lit};
+use picks::{Always, Downwards};
+use std::alloc::{AllocError, Global};
+use std::io::{self, Print};
+
+fn are_below(lits: &[Lit], vars: u32) -> bool
+    ensures { result ≡ is_below vars lits.now }
+{
+    lits.iter().all(|l| l.var < vars)
+}
+
+/// Whether each variable of the clauses is below the number.
+fn has_vars_below(arena: &ClauseArena, vars: u32) -> bool
+    ensures { IsTrue result → AllClauses (is_below vars) arena.now.clauses }
+{
+    for i in 0..arena.count() {
+        let id = ClauseId(i);
+        if !arena.is_live(id) {
+            continue;
+        }
+        if !are_below(arena.lits(id), vars) {
+            return false;
+        }
+    }
+    true
+}
+
+/// Puts a clause of both variables with these signs.
+fn put_two(arena: &mut ClauseArena, first: bool, second: bool) -> Result<(), AllocError> {
+    if arena.count() < 1000 {
+        arena.push(&[
+            Lit {
+                var: 0,
+                negative: first,
+            },
+            Lit {
+                var: 1,
+                negative: second,
+            },
+        ])?;
+    }
+    Ok(())
+}
+
+/// The four clauses of two literals over variables 0 and 1.
+fn four(alloc: Global) -> Result<ClauseArena, AllocError> {
+    let mut arena = ClauseArena::new(alloc);
+    put_two(&mut arena, false, false)?;
+    put_two(&mut arena, false, true)?;
+    put_two(&mut arena, true, false)?;
+    put_two(&mut arena, true, true)?;
+    Ok(arena)
+}
+
+/// Solves, and says what came out.
+fn row(
+    alloc: Global,
+    arena: &mut ClauseArena,
+    vars: u32,
+    chooser: &mut Box<dyn Chooser>,
+    budget: u64,
+) -> Result<(&'static str, u64), AllocError>
+    requires some { 0 < budget }
+    requires few { budget < 1000 }
+{
+    if arena.count() > 1000 || !has_vars_below(arena, vars) {
+        return Ok(("not solved", 0));
+    }
+    match solve(alloc, arena, vars, chooser, budget)? {
+        Solved::Model(bits) => Ok(("model", bits.len() as u64)),
+        Solved::Refuted(log) => Ok(("refuted", log.len().min(1))),
+        Solved::Spent(log) => Ok(("spent", log.len())),
+    }
+}
+
+/// The four clauses with a budget of 1 and of 9.
+fn both<R: Print>(
+    rt: &R,
+    alloc: Global,
+    name: &str,
+    chooser: &mut Box<dyn Chooser>,
+) -> io::Result<()> {
+    let (small, derived) = row(alloc, &mut four(alloc)?, 2, chooser, 1)?;
+    let (large, _) = row(alloc, &mut four(alloc)?, 2, chooser, 9)?;
+    println!(rt; "{name}: 1 {small} {derived}, 9 {large}")
+}
+
+/// No clause over no variable, and the empty clause alone.
+fn smallest<R: Print>(rt: &R, alloc: Global, chooser: &mut Box<dyn Chooser>) -> io::Result<()> {
+    let mut none = ClauseArena::new(alloc);
+    let (answer, bits) = row(alloc, &mut none, 0, chooser, 1)?;
+    println!(rt; "no clause: {answer} {bits}")?;
+    let mut empty = ClauseArena::new(alloc);
+    empty.push(&[])?;
+    let (answer, steps) = row(alloc, &mut empty, 0, chooser, 1)?;
+    println!(rt; "empty clause: {answer} {steps}")
+}
+
+/// The chooser is asked: of one clause of both variables it decides which is false first.
+fn first_false(alloc: Global, chooser: &mut Box<dyn Chooser>) -> Result<Option<bool>, AllocError> {
+    let mut arena = ClauseArena::new(alloc);
+    put_two(&mut arena, false, false)?;
+    if arena.count() > 1000 || !has_vars_below(&arena, 2) {
+        return Ok(None);
+    }
+    match solve(alloc, &mut arena, 2, chooser, 1)? {
+        Solved::Model(bits) => Ok(bits.get(0).copied()),
+        _ => Ok(None),
+    }
+}
+
+fn main(rt: HostRuntime) -> io::Result<()> {
+    let alloc = rt.alloc();
+    let mut order: Box<dyn Chooser> = Box::new(alloc, OrderChooser::new(alloc))?;
+    both(&rt, alloc, "order", &mut order)?;
+    smallest(&rt, alloc, &mut order)?;
+    println!(rt; "order: {:?}", first_false(alloc, &mut order)?)?;
+    let mut activity: Box<dyn Chooser> = Box::new(alloc, ActivityChooser::new(alloc))?;
+    both(&rt, alloc, "activity", &mut activity)?;
+    for pick in [0, 1, u32::MAX] {
+        let mut always: Box<dyn Chooser> = Box::new(alloc, Always::new(pick))?;
+        both(&rt, alloc, "always", &mut always)?;
+        println!(rt; "always {pick}: {:?}", first_false(alloc, &mut always)?)?;
+    }
+    let mut downwards: Box<dyn Chooser> = Box::new(alloc, Downwards::new())?;
+    both(&rt, alloc, "downwards", &mut downwards)
+}

@@ -1,0 +1,69 @@
+//! Choosers that pick without a look at the values.
+
+ghost use Rattle.std.specs.Prelude.{◌≡◌, true, length, OnOk};
+ghost use Rattle.clause_arena.specs.Clause.{is_below};
+
+use cdcl::Chooser;
+use clause_arena::Lit;
+use std::alloc::AllocError;
+
+/// Picks one number always.
+#[derive(Drop)]
+pub struct Always {
+    vars: u32,
+    pick: u32,
+}
+
+impl Always {
+    pub fn new(pick: u32) -> Always {
+        Always { vars: 0, pick }
+    }
+}
+
+impl Chooser for Always {
+    ghost ready_for = { λ c. c.vars };
+
+    fn ready(&mut self, vars: u32) -> Result<(), AllocError> {
+        self.vars = vars;
+        Ok(())
+    }
+
+    fn learned(&mut self, _lits: &[Lit]) {}
+
+    fn pick(&mut self, _values: &[u8]) -> u32 {
+        self.pick
+    }
+}
+
+/// Counts downwards from the greatest number.
+#[derive(Drop)]
+pub struct Downwards {
+    vars: u32,
+    next: u32,
+}
+
+impl Downwards {
+    pub fn new() -> Downwards {
+        Downwards {
+            vars: 0,
+            next: u32::MAX,
+        }
+    }
+}
+
+impl Chooser for Downwards {
+    ghost ready_for = { λ c. c.vars };
+
+    fn ready(&mut self, vars: u32) -> Result<(), AllocError> {
+        self.vars = vars;
+        Ok(())
+    }
+
+    fn learned(&mut self, _lits: &[Lit]) {}
+
+    fn pick(&mut self, _values: &[u8]) -> u32 {
+        let pick = self.next;
+        self.next = pick.wrapping_sub(1);
+        pick
+    }
+}
