@@ -17,6 +17,9 @@ mod trail;
 // Each clause is quiet from here on, or one is false.
 mod propagate;
 
+// The same, with a count for benchmarks.
+mod counts;
+
 // A false clause becomes a new one.
 mod analyze;
 
@@ -29,6 +32,7 @@ mod turn;
 pub use activity::ActivityChooser;
 pub use chooser::{Chooser, Choosers};
 use clause_arena::{Bits, ClauseArena};
+pub use counts::Counts;
 pub use order::OrderChooser;
 use res_log::{Log, has_empty_clause};
 use std::alloc::{AllocError, Global};
@@ -64,6 +68,28 @@ pub fn solve(
     ensures kept { Keeps arena.old.clauses arena.new.clauses }
     ensures bounded { length arena.new.clauses ≤ length arena.old.clauses + budget }
 {
+    let mut counts = Counts { propagations: 0 };
+    solve_counted(alloc, arena, vars, chooser, budget, &mut counts)
+}
+
+/// The same as `solve`, which also adds to the counts what the search does.
+pub fn solve_counted(
+    alloc: Global,
+    arena: &mut ClauseArena,
+    vars: u32,
+    chooser: &mut Box<dyn Chooser>,
+    budget: u64,
+    counts: &mut Counts,
+) -> Result<Solved, AllocError>
+    requires below { AllClauses (is_below vars) arena.old.clauses }
+    requires some { 0 < budget }
+    requires room { length arena.old.clauses + budget ≤ 4294967295 }
+    ensures answer { IfOk result (IsAnswer arena.old.clauses arena.new.clauses vars budget) }
+    // A budget that holds all clauses over the variables is never spent.
+    ensures earned { 3 ^ vars ≤ budget → IfOk result IsDecided }
+    ensures kept { Keeps arena.old.clauses arena.new.clauses }
+    ensures bounded { length arena.new.clauses ≤ length arena.old.clauses + budget }
+{
     let mut log = Log::new(alloc);
     if has_empty_clause(arena) {
         return Ok(Solved::Refuted(log));
@@ -71,7 +97,7 @@ pub fn solve(
     chooser.ready(vars)?;
     let mut trail = Trail::new(alloc, vars)?;
     'search: loop {
-        match turn(alloc, arena, &mut log, &mut trail, chooser, budget)? {
+        match turn(alloc, arena, &mut log, &mut trail, chooser, budget, counts)? {
             Outcome::Again => continue,
             Outcome::Satisfied(bits) => return Ok(Solved::Model(bits)),
             Outcome::Refuted => return Ok(Solved::Refuted(log)),

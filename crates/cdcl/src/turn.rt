@@ -10,8 +10,8 @@ ghost use Rattle.cdcl.specs.Answer.{Keeps, assignment};
 ghost use Rattle.cdcl.specs.Turn.{IsTurn, IsOutcome};
 
 use crate::chooser::Chooser;
+use crate::counts::{Counts, propagate_counted};
 use crate::learn::{learn, refute};
-use crate::propagate::propagate;
 use crate::trail::Trail;
 use clause_arena::{Bits, ClauseArena, ClauseId, Lit};
 use res_log::Log;
@@ -125,6 +125,7 @@ pub fn turn(
     trail: &mut Trail,
     chooser: &mut Box<dyn Chooser>,
     budget: u64,
+    counts: &mut Counts,
 ) -> Result<Outcome, AllocError>
     requires room { length arena.old.clauses < 4294967295 }
     requires vars { vars_of trail.old < 4294967296 }
@@ -137,7 +138,7 @@ pub fn turn(
     ensures clauses { Keeps arena.old.clauses arena.new.clauses }
     ensures bounded { length arena.new.clauses ≤ length arena.old.clauses + 1 }
 {
-    match propagate(arena, trail)? {
+    match propagate_counted(arena, trail, counts)? {
         Some(conflict) => return end_conflict(alloc, arena, log, trail, chooser, budget, conflict),
         None => {}
     }

@@ -1,5 +1,6 @@
-//! Solves clauses in the DIMACS form, given on the standard input. It prints whether they have a
-//! model, and how many clauses were derived, one for each conflict.
+//! Solves clauses in the DIMACS form, given on the standard input, and prints whether they have a
+//! model. With a word behind its name it also prints how many clauses were derived, one for each
+//! conflict, and how many literals clauses forced.
 #![tactic(auto)]
 
 ghost use Rattle.std.specs.Prelude.{◌≡◌, true, IsTrue};
@@ -8,10 +9,11 @@ ghost use Rattle.cdcl.specs.Trail.{AllClauses};
 
 mod reader;
 
-use cdcl::{ActivityChooser, Chooser, Solved, solve};
+use cdcl::{ActivityChooser, Chooser, Counts, Solved, solve_counted};
 use clause_arena::{ClauseArena, ClauseId, Lit};
 use reader::{Problem, read};
 use std::alloc::{AllocError, Global};
+use std::env;
 use std::io::{self, Print};
 
 /// How many clauses are derived at most.
@@ -47,11 +49,19 @@ fn answer(
     alloc: Global,
     problem: &mut Problem,
     chooser: &mut Box<dyn Chooser>,
+    counts: &mut Counts,
 ) -> Result<&'static str, AllocError> {
     if problem.arena.count() > MOST_CLAUSES || !has_vars_below(&problem.arena, problem.vars) {
         return Ok("s UNKNOWN");
     }
-    match solve(alloc, &mut problem.arena, problem.vars, chooser, BUDGET)? {
+    match solve_counted(
+        alloc,
+        &mut problem.arena,
+        problem.vars,
+        chooser,
+        BUDGET,
+        counts,
+    )? {
         Solved::Model(_) => Ok("s SATISFIABLE"),
         Solved::Refuted(_) => Ok("s UNSATISFIABLE"),
         Solved::Spent(_) => Ok("s UNKNOWN"),
@@ -64,17 +74,25 @@ fn run<R: Print>(
     alloc: Global,
     text: &str,
     chooser: &mut Box<dyn Chooser>,
+    shows_counts: bool,
 ) -> io::Result<()> {
     let mut problem = read(alloc, text)?;
     let before = problem.arena.count();
-    let answer = answer(alloc, &mut problem, chooser)?;
+    let mut counts = Counts { propagations: 0 };
+    let answer = answer(alloc, &mut problem, chooser, &mut counts)?;
+    println!(rt; "{answer}")?;
+    if !shows_counts {
+        return Ok(());
+    }
     let conflicts = problem.arena.count().saturating_sub(before);
-    println!(rt; "{answer}\nc conflicts {conflicts}")
+    let propagations = counts.propagations;
+    println!(rt; "c conflicts {conflicts}\nc propagations {propagations}")
 }
 
 fn main(rt: HostRuntime) -> io::Result<()> {
     let alloc = rt.alloc();
+    let shows_counts = env::args(&rt)?.nth(1).is_some();
     let text = io::read_to_string(alloc, rt.reader())?;
     let mut chooser: Box<dyn Chooser> = Box::new(alloc, ActivityChooser::new(alloc))?;
-    run(&rt, alloc, text.as_str(), &mut chooser)
+    run(&rt, alloc, text.as_str(), &mut chooser, shows_counts)
 }

@@ -10,7 +10,7 @@ mod picks;
 
 use cdcl::{ActivityChooser, Chooser, OrderChooser, Solved, solve};
 use clause_arena::{ClauseArena, ClauseId, Lit};
-use picks::{Always, Downwards};
+use picks::{Always, Downwards, Recording};
 use std::alloc::{AllocError, Global};
 use std::io::{self, Print};
 
@@ -120,6 +120,14 @@ fn first_false(alloc: Global, chooser: &mut Box<dyn Chooser>) -> Result<Option<b
     }
 }
 
+/// Whether a chooser that counts is asked while the four clauses are solved.
+fn is_asked(alloc: Global) -> Result<bool, AllocError> {
+    let mut recording: Box<dyn Chooser> = Box::new(alloc, Recording::new())?;
+    row(alloc, &mut four(alloc)?, 2, &mut recording, 9)?;
+    recording.ready(0)?;
+    Ok(recording.pick(&[]) > 0)
+}
+
 fn main(rt: HostRuntime) -> io::Result<()> {
     let alloc = rt.alloc();
     let mut order: Box<dyn Chooser> = Box::new(alloc, OrderChooser::new(alloc))?;
@@ -134,5 +142,6 @@ fn main(rt: HostRuntime) -> io::Result<()> {
         println!(rt; "always {pick}: {:?}", first_false(alloc, &mut always)?)?;
     }
     let mut downwards: Box<dyn Chooser> = Box::new(alloc, Downwards::new())?;
-    both(&rt, alloc, "downwards", &mut downwards)
+    both(&rt, alloc, "downwards", &mut downwards)?;
+    println!(rt; "recording: asked {}", is_asked(alloc)?)
 }

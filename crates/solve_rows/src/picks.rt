@@ -67,3 +67,35 @@ impl Chooser for Downwards {
         pick
     }
 }
+
+/// Counts how often it is asked, and picks 0. Asked for no values, it answers the count.
+#[derive(Drop)]
+pub struct Recording {
+    vars: u32,
+    asked: u32,
+}
+
+impl Recording {
+    pub fn new() -> Recording {
+        Recording { vars: 0, asked: 0 }
+    }
+}
+
+impl Chooser for Recording {
+    ghost ready_for = { λ c. c.vars };
+
+    fn ready(&mut self, vars: u32) -> Result<(), AllocError> {
+        self.vars = vars;
+        Ok(())
+    }
+
+    fn learned(&mut self, _lits: &[Lit]) {}
+
+    fn pick(&mut self, values: &[u8]) -> u32 {
+        if values.is_empty() {
+            return self.asked;
+        }
+        self.asked = self.asked.saturating_add(1);
+        0
+    }
+}

@@ -22,8 +22,8 @@ returns-in_ok-push-in-Some-next_decision-clause-clauses g c = keeps-same c.args.
 pub returns-in_ok-push-in-Some-next_decision-clause-turned : goal.returns-in_ok-push-in-Some-next_decision-clause-turned
 returns-in_ok-push-in-Some-next_decision-clause-turned g c =
     inr
-    (decides-is c.args.arena.now.clauses c.args.log.now c.args.trail.now c.propagate.new.trail c.push.new.self (lit true c.in-Some-next_decision.var)
-    (settled-none (AllClauses (is_quiet c.propagate.new.trail.lits.items) c.args.arena.now.clauses) (IsConflict c.args.arena.now.clauses c.propagate.new.trail.lits.items) c.in_ok-conflict.field-0 c.in-None.is c.in_ok-conflict.ensures.settled)
+    (decides-is c.args.arena.now.clauses c.args.log.now c.args.trail.now c.propagate_counted.new.trail c.push.new.self (lit true c.in-Some-next_decision.var)
+    (settled-none (AllClauses (is_quiet c.propagate_counted.new.trail.lits.items) c.args.arena.now.clauses) (IsConflict c.args.arena.now.clauses c.propagate_counted.new.trail.lits.items) c.in_ok-conflict.field-0 c.in-None.is c.in_ok-conflict.ensures.settled)
     c.in-Some-next_decision.ensures.free.1 c.in-Some-next_decision.ensures.free.0
     c.in_ok-push-in-Some-next_decision.ensures.pushed c.in_ok-push-in-Some-next_decision.ensures.reasoned c.push.ensures.vars c.in_ok-conflict.ensures.spread)
 
@@ -33,7 +33,7 @@ returns-in_ok-model_of-in-None-next_decision-clause-clauses g c = keeps-same c.a
 pub returns-in_ok-model_of-in-None-next_decision-clause-turned : goal.returns-in_ok-model_of-in-None-next_decision-clause-turned
 returns-in_ok-model_of-in-None-next_decision-clause-turned g c = (
   refl,
-  model-found c.args.arena.now.clauses c.args.trail.now c.propagate.new.trail c.in_ok-model_of-in-None-next_decision.field-0 c.requires.below
-      (settled-none (AllClauses (is_quiet c.propagate.new.trail.lits.items) c.args.arena.now.clauses) (IsConflict c.args.arena.now.clauses c.propagate.new.trail.lits.items) c.in_ok-conflict.field-0 c.in-None.is c.in_ok-conflict.ensures.settled)
+  model-found c.args.arena.now.clauses c.args.trail.now c.propagate_counted.new.trail c.in_ok-model_of-in-None-next_decision.field-0 c.requires.below
+      (settled-none (AllClauses (is_quiet c.propagate_counted.new.trail.lits.items) c.args.arena.now.clauses) (IsConflict c.args.arena.now.clauses c.propagate_counted.new.trail.lits.items) c.in_ok-conflict.field-0 c.in-None.is c.in_ok-conflict.ensures.settled)
       c.in-None-next_decision.ensures.free c.in_ok-model_of-in-None-next_decision.ensures.size c.in_ok-model_of-in-None-next_decision.ensures.values c.in_ok-conflict.ensures.spread,
 )

@@ -1,6 +1,6 @@
 use Rattle.std.proofs.Common.{◌≡◌, ◌+◌, ◌-◌, ◌*◌, length}
 use Rattle.cdcl.proofs.Solves.{Searching}
-use Rattle.cdcl.proofs.solve.Given as goal
+use Rattle.cdcl.proofs.solve_counted.Given as goal
 
 abbrev pub invariant-search : goal.invariant-search
 invariant-search g l =

@@ -4,7 +4,7 @@ use Rattle.cdcl.specs.Turn.{IsTurn}
 use Rattle.cdcl.proofs.Keeping.{keeps-same}
 use Rattle.cdcl.proofs.Solves.{searching-model}
 use Rattle.cdcl.proofs.Answered.{refuted-first, refutation-is, searching-turn, turn-smaller, spent-turn, never-spent-turn, keeps-turn}
-use Rattle.cdcl.proofs.solve.Goals as goal
+use Rattle.cdcl.proofs.solve_counted.Goals as goal
 
 pub returns-then-has_empty_clause-clause-answer : goal.returns-then-has_empty_clause-clause-answer
 returns-then-has_empty_clause-clause-answer g c = refuted-first c.args.arena.now.clauses c.args.budget c.new-log.result c.new-log.ensures (c.has_empty_clause.ensures.0 c.if-has_empty_clause.true)
