@@ -71,6 +71,7 @@ impl MemFiles {
     pub fn add(&mut self, name: &str, text: &[u8]) -> Result<(), AllocError>
         ensures put { OnOk result (IsPut self.old.files.items self.new.files.items name.now text.now) }
         ensures err { OnErr result (self.new.files.items ≡ self.old.files.items) }
+        ensures same { self.new ≡ record self.old { files = self.new.files } }
     {
         let alloc = *self.files.allocator();
         let file = MemFile {
@@ -86,6 +87,7 @@ impl MemFiles {
         ensures listed { OnOk result (self.new.calls.failing.items ≡ self.old.calls.failing.items ++ call ∷ []) }
         ensures made { self.new.calls.made ≡ self.old.calls.made }
         ensures files { self.new.files ≡ self.old.files }
+        ensures same { self.new ≡ record self.old { calls = self.new.calls } }
     {
         self.calls.fail_at(call)
     }

@@ -45,6 +45,7 @@ impl MemSink {
         ensures listed { OnOk result (self.new.calls.failing.items ≡ self.old.calls.failing.items ++ call ∷ []) }
         ensures made { self.new.calls.made ≡ self.old.calls.made }
         ensures bytes { self.new.bytes ≡ self.old.bytes }
+        ensures same { self.new ≡ record self.old { calls = self.new.calls } }
     {
         self.calls.fail_at(call)
     }
