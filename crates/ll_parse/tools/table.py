@@ -1,49 +1,95 @@
 #!/usr/bin/env python3
 """Makes the statics of a `Table` from a grammar.
 
-    table.py GRAMMAR PREFIX
+    table.py GRAMMAR PREFIX [ACTIONS [antt]]
 
-A grammar has lines `NAME = BODY | BODY ..`, the start symbol's first. A word that is the NAME of a line is a
-nonterminal, any other one a kind of token, numbered from 1 in the order of the lines `token NAME WORD` that come
-before, or of first use. A body that ends in `unless:WORD` isn't used before that kind of token. `#` begins a comment.
+A grammar has lines `NAME = BODY | BODY ..`, the start symbol's first; a line that begins with `|` goes on with the one
+before. A word that is the NAME of a line is a nonterminal, any other one a kind of token, also in quotes, numbered from
+1 in the order of the lines `token NAME WORD` that come before, or of first use. A body that ends in `unless:WORD` isn't
+used before that kind of token. `#` begins a comment.
 
-Nothing rests on this script: what it gives is checked by the test of the table.
+A body may hold actions. `<x>` and `<x:k>`, right after a token, and `{x}` and `{x:k}` are nonterminals whose one, empty
+production is marked with the action x; `@x` marks the body itself, which is empty but for that.
+
+ACTIONS has a line `ACTION: SORT SORT -> SORT NODES` for each action, in the order of their numbers: the sorts of the
+values that it takes, in text order, the one of the value that it gives, and how many nodes it makes, if any. With `antt`
+the definitions for the proofs are printed: the signatures, the effect of each nonterminal, and what `<x>` comes after.
+
+Nothing rests on this script: what it gives is checked by the tests of the table.
 """
+import re
 import sys
 
 NO_KIND = 255
 WIDTH = 128
 FIRST_NONTERMINAL = 256
+SPOT = re.compile(r"^(<([a-z]\w*)(:\w+)?>|\{([a-z]\w*)(:\w+)?\})$")
 
 
 class Grammar:
     def __init__(self, path):
-        self.names, self.kinds, self.productions = [], {}, []
-        lines = [line.split(" #")[0].strip() for line in open(path)]
-        lines = [line for line in lines if line and not line.startswith("#")]
+        self.names, self.productions, self.marks = [], [], []
+        self.kinds = Kinds()
+        lines = joined([line.split(" #")[0].strip() for line in open(path)])
         heads = [line.split(" ", 1)[0] for line in lines if not line.startswith("token ")]
+        spots = {}
         for line in lines:
             if line.startswith("token "):
-                self.kind(line.split()[2])
+                self.kinds.number(line.split()[2])
                 continue
             head, bodies = line.split(" =", 1)
             self.names.append(head)
             for words in split_at_bars(bodies.split()):
                 barred = [word[len("unless:"):] for word in words if word.startswith("unless:")]
-                body = [word for word in words if not word.startswith("unless:")]
+                mark = [word[1:] for word in words if re.match(r"^@[a-z]", word)]
+                body = [word for word in words if not re.match(r"^(unless:|@[a-z])", word)]
                 for word in body:
-                    if word not in heads:
-                        self.kind(word)
-                self.productions.append((head, body, barred[0] if barred else None))
+                    spot = SPOT.match(word)
+                    if spot:
+                        spots[word] = spot[2] or spot[4]
+                    elif word not in heads:
+                        self.kinds.number(word)
+                self.add(head, body, barred[0] if barred else None, mark[0] if mark else None)
+        for spot, action in spots.items():
+            self.names.append(spot)
+            self.add(spot, [], None, action)
 
-    def kind(self, word):
-        return self.kinds.setdefault(word, len(self.kinds) + 1)
+    def add(self, head, body, barred, mark):
+        self.productions.append((head, body, barred))
+        self.marks.append(mark)
 
     def is_nonterminal(self, word):
         return word in self.names
 
     def symbol(self, word):
         return FIRST_NONTERMINAL + self.names.index(word) if self.is_nonterminal(word) else self.kinds[word]
+
+
+class Kinds:
+    """The numbers of the kinds of token, whose words may stand in quotes."""
+
+    def __init__(self):
+        self.numbers = {}
+
+    def number(self, word):
+        return self.numbers.setdefault(bare(word), len(self.numbers) + 1)
+
+    def __getitem__(self, word):
+        return self.numbers[bare(word)]
+
+
+def bare(word):
+    return word[1:-1] if len(word) > 2 and word[0] == word[-1] == '"' else word
+
+
+def joined(lines):
+    whole = []
+    for line in lines:
+        if re.match(r"^\|(\s|$)", line):
+            whole[-1] += " " + line
+        elif line and not line.startswith("#"):
+            whole.append(line)
+    return whole
 
 
 def split_at_bars(words):
@@ -150,12 +196,136 @@ def costs(grammar, nullable):
     sys.exit("no token pays for some production")
 
 
+class Actions:
+    """The actions in the order of their numbers, with their sorts from the top of the stack down."""
+
+    def __init__(self, grammar, path):
+        self.takes, self.gives, self.nodes, self.sorts = {}, {}, {}, []
+        for line in joined([line.split(" #")[0].strip() for line in open(path)] if path else []):
+            name, takes, gives, *nodes = re.match(r"^(\w+):(.*)->\s*(\w+)\s*(\d*)$", line).groups()
+            self.takes[name] = [self.sort(word) for word in takes.split()][::-1]
+            self.gives[name] = self.sort(gives)
+            self.nodes[name] = int(nodes[0] or 0)
+        used = [mark for mark in grammar.marks if mark]
+        self.names = list(self.takes) if path else list(dict.fromkeys(used))
+        if set(used) != set(self.names):
+            sys.exit("only in one of the files: " + str(sorted(set(used) ^ set(self.names))))
+
+    def sort(self, word):
+        if word not in self.sorts:
+            self.sorts.append(word)
+        return self.sorts.index(word)
+
+    def mark(self, name):
+        return self.names.index(name) + 1 if name else 0
+
+
+def run(stack, takes, gives):
+    """A stack, and what it lacks from below, both from the top down, after an effect."""
+    have, lack = stack
+    for sort in takes:
+        if have and have[0] != sort:
+            return None
+        have, lack = (have[1:], lack) if have else ([], lack + [sort])
+    return gives + have, lack
+
+
+def joined_effect(one, other):
+    """The two as one, where the one that takes less leaves the rest as it is."""
+    short, long = sorted([one, other], key=lambda effect: len(effect[0]))
+    rest = long[0][len(short[0]):]
+    return long if long == (short[0] + rest, short[1] + rest) else None
+
+
+def effects(grammar, actions):
+    """For each nonterminal, what it takes off the stack and what it puts there, from the top down."""
+    found = {}
+
+    def of(production):
+        (_, body, _), mark = grammar.productions[production], grammar.marks[production]
+        stack = ([], [])
+        if mark:
+            stack = run(stack, actions.takes[mark], [actions.gives[mark]])
+        for word in filter(grammar.is_nonterminal, body):
+            if word not in found:
+                return None
+            stack = run(stack, *found[word])
+            if stack is None:
+                sys.exit(f"production {production} lacks the sorts that {word} takes")
+        return stack[1], stack[0]
+
+    def step():
+        changed = False
+        for p, (head, _, _) in enumerate(grammar.productions):
+            effect = of(p)
+            if effect is None:
+                continue
+            whole = joined_effect(found.get(head, effect), effect)
+            if whole is None or len(whole[0]) > 20:
+                sys.exit(f"production {p} of {head} is {named(actions, effect)}, but one before {named(actions, found[head])}")
+            changed |= found.get(head) != whole
+            found[head] = whole
+        return changed
+
+    until_stable(step)
+    return found
+
+
+def named(actions, effect):
+    """An effect in words, in text order."""
+    takes, gives = ("".join(actions.sorts[sort] + " " for sort in reversed(side)) for side in effect)
+    return f"{takes}-> {gives}".strip()
+
+
+def comes_after(grammar, actions):
+    """The kinds of the token right before each `<x>`, and each nonterminal that is one."""
+    after = {name: set() for name in actions.names}
+    for _, body, _ in grammar.productions:
+        for word, spot in zip(body, body[1:]):
+            if spot[0] == "<" and grammar.is_nonterminal(spot):
+                ends = [b[-1] for h, b, _ in grammar.productions if h == word] if grammar.is_nonterminal(word) else [word]
+                after[SPOT.match(spot)[2]] |= {grammar.kinds[end] for end in ends}
+    own = [actions.mark(SPOT.match(n)[2]) if n[0] == "<" else 0 for n in grammar.names]
+    return [sorted(after[name]) for name in actions.names], own
+
+
+def antt_list(values):
+    return "".join(f"{v} ∷ " for v in values) + "[]"
+
+
+def antt_statics(grammar, actions, prefix):
+    found = effects(grammar, actions)
+    after, own = comes_after(grammar, actions)
+
+    def definition(name, kind, items):
+        print(f"\nunfoldable pub {prefix}{name} : List {kind}\n{prefix}{name} =")
+        for item, note in items:
+            print(f"    {item} ∷ -- {note}")
+        print("    []")
+
+    for i, sort in enumerate(actions.sorts):
+        print(f"-- sort {i}: {sort}")
+    definition("SIGNATURES", "Signature", [
+        (f"record {{ takes = {antt_list(actions.takes[n])}; gives = {actions.gives[n]} }}",
+         f"{i}, {n}: {named(actions, (actions.takes[n], [actions.gives[n]]))}")
+        for i, n in enumerate(actions.names)])
+    definition("EFFECTS", "Effect", [
+        (f"record {{ takes = {antt_list(found[n][0])}; gives = {antt_list(found[n][1])} }}",
+         f"{FIRST_NONTERMINAL + i}, {n}: {named(actions, found[n])}")
+        for i, n in enumerate(grammar.names)])
+    definition("AFTER", "(List ℕ)", [(f"({antt_list(kinds)})", f"{i}, {n}") for i, (kinds, n) in enumerate(zip(after, actions.names))])
+    print(f"\nunfoldable pub {prefix}SPOTS : List ℕ\n{prefix}SPOTS = {antt_list(own)}")
+
+
 def numbers(values):
     return "[" + ", ".join(str(v) for v in values) + "]"
 
 
-def main(path, prefix):
+def main(path, prefix, actions_path=None, antt=None):
     grammar = Grammar(path)
+    actions = Actions(grammar, actions_path)
+    if antt:
+        return antt_statics(grammar, actions, prefix)
     nullable = nullables(grammar)
     cells, follows = rows_and_follows(grammar)
     witness, rank = witnesses_and_ranks(grammar)
@@ -172,7 +342,8 @@ def main(path, prefix):
         print(f"static {prefix}{name}: [{kind}; {len(values)}] = {numbers(values)};")
 
     for p, (head, body, barred) in enumerate(productions):
-        print(f"// {p}: {head} = " + " ".join(body) + (f" (not before {barred})" if barred else ""))
+        mark = grammar.marks[p]
+        print(f"// {p}: {head} = " + " ".join(body) + (f" (not before {barred})" if barred else "") + (f" does {mark}" if mark else ""))
     print(f"// the start symbol is {FIRST_NONTERMINAL}, and each token pays for {per_token} productions")
     static("HEADS", "u16", [grammar.symbol(h) for h, _, _ in productions])
     static("BODIES", "u16", bodies)
@@ -184,7 +355,21 @@ def main(path, prefix):
     static("RANKS", "u16", [rank[n] for n in names])
     static("COSTS", "u16", [cost[n] for n in names])
     static("NULLABLE", "bool", ["true" if n in nullable else "false" for n in names])
+    if not actions.names:
+        return
+    for a, name in enumerate(actions.names):
+        print(f"// action {a}: {name}")
+    static("MARKS", "u16", [actions.mark(mark) for mark in grammar.marks])
+    _, own = comes_after(grammar, actions)
+    weaves = [(len(actions.takes.get(n, [])), actions.nodes.get(n, 0), actions.mark(n) in own) for n in actions.names]
+    for takes, nodes, is_own in sorted(set(weaves)):
+        print(f"const {weave_name(takes, nodes, is_own)}: Weave = Weave {{ takes: {takes}, nodes: {nodes}, own: {str(is_own).lower()} }};")
+    static("WEAVES", "Weave", [weave_name(*weave) for weave in weaves])
+
+
+def weave_name(takes, nodes, is_own):
+    return f"TAKES_{takes}_NODES_{nodes}" + ("_OWN" if is_own else "")
 
 
 if __name__ == "__main__":
-    main(sys.argv[1], sys.argv[2] if len(sys.argv) > 2 else "")
+    main(sys.argv[1], sys.argv[2] if len(sys.argv) > 2 else "", *sys.argv[3:5])

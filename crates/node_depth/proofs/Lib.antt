@@ -1,4 +1,4 @@
-pub mod DepthSteps
-pub mod Also
+pub mod ScanSteps
 pub mod PassSteps
-pub mod Runs
+pub mod Also
+pub mod Woven

@@ -1,3 +1,4 @@
 pub mod Nodes
-pub mod Flat
+pub mod Scan
+pub mod Weaves
 pub mod Pass

@@ -1,68 +1,58 @@
--- The list of the nodes, by one pass from the right over the productions.
-use Rattle.std.specs.Prelude.{ℕ, ◌+◌, ◌-◌, List, [], ◌∷◌, reverse, cond, nat_lt, slice_index_or}
+-- The pass from the left: what the code holds of the values on the stack, and the nodes that it lists.
+use Rattle.std.specs.Prelude.{ℕ, ◌+◌, ◌-◌, cond, List, [], ◌∷◌, ◌++◌, drop, reverse, unwrap_or}
 use Rattle.std.proofs.Common.{suc, zero}
-use Rattle.ll_parse.specs.declared.placing.Placed.{Placed}
+use Rattle.std.specs.Option.{option_or}
+use Rattle.std.specs.declared.option.Option.TheVariants.{None, Some}
+use Rattle.ll_actions.specs.declared.step.Step.{Step}
 use Rattle.node_depth.specs.declared.depth.Node.{Node}
-use Rattle.node_depth.specs.declared.flat.Shape.{Shape}
-use Rattle.node_depth.specs.declared.flat.Act.{Act}
-use Rattle.node_depth.specs.declared.flat.Act.TheVariants.{Sum, One, Chain, More, Path}
+use Rattle.node_depth.specs.declared.weave.Part.{Part}
+use Rattle.node_depth.specs.declared.weave.Weave.{Weave}
+use Rattle.node_depth.specs.Weaves.{weave_of}
 
--- the trees that each nonterminal to come stands for, the first one first, and the nodes that were read
-pub record Pass : Type 0 where
-  pub counts : List ℕ
+abbrev pub NOTHING : Part
+NOTHING = record { first = None; count = 0 }
+
+-- a value before another one, as one
+abbrev pub beside : Part → Part → Part
+beside a b = record { first = option_or a.first b.first; count = a.count + b.count }
+
+-- the top n values as one
+abbrev pub gathered : ℕ → List Part → Part
+gathered zero st = NOTHING
+gathered (suc n) [] = NOTHING
+gathered (suc n) (p ∷ st) = beside (gathered n st) p
+
+-- n nested nodes over c trees, the inner ones first, and how many trees there are then
+abbrev pub wrapped : ℕ → ℕ → ℕ → List Node
+wrapped zero p c = []
+wrapped (suc n) p c = record { inside = c; place = p } ∷ wrapped n p 1
+
+abbrev pub count_under : ℕ → ℕ → ℕ
+count_under zero c = c
+count_under (suc n) c = 1
+
+-- the values, the top one first, and the nodes, the oldest first
+pub record State : Type 0 where
+  pub parts : List Part
   pub nodes : List Node
 
-abbrev pub top : List ℕ → ℕ
-top [] = 0
-top (c ∷ cs) = c
-
-abbrev pub under : List ℕ → List ℕ
-under [] = []
-under (c ∷ cs) = cs
-
--- the sum of the first n, and the others
-abbrev pub sum_of : ℕ → List ℕ → ℕ
-sum_of zero cs = 0
-sum_of (suc n) cs = top cs + sum_of n (under cs)
-
-abbrev pub rest_of : ℕ → List ℕ → List ℕ
-rest_of zero cs = cs
-rest_of (suc n) cs = rest_of n (under cs)
-
--- n operators whose first token is i, each the left operand of the one before
-abbrev pub operators : ℕ → ℕ → List Node → List Node
-operators zero i ns = ns
-operators (suc n) i ns = record { inside = 2; place = i } ∷ operators n i ns
-
--- The production at token i stands for n trees: these themselves, one node over them, the first one and operators that
--- take the others, one node over them where they are more than one, or a leaf, with one node over it and them where
--- there are any.
-abbrev pub makes : Act → ℕ → ℕ → List ℕ → List Node → Pass
-makes Sum i n cs ns = record { counts = n ∷ cs; nodes = ns }
-makes One i n cs ns = record { counts = 1 ∷ cs; nodes = record { inside = n; place = i } ∷ ns }
-makes Chain i n cs ns = record { counts = 1 ∷ cs; nodes = operators (n - 1) i ns }
-makes More i n cs ns = record { counts = 1 ∷ cs; nodes = cond (nat_lt 1 n) (record { inside = n; place = i } ∷ ns) ns }
-makes Path i n cs ns = record { counts = 1 ∷ cs; nodes = cond (nat_lt 0 n) (record { inside = n + 1; place = i } ∷ record { inside = 0; place = i } ∷ ns) (record { inside = 0; place = i } ∷ ns) }
-
--- what a production makes that no shape is given for
-abbrev pub PLAIN : Shape
-PLAIN = record { act = Sum; size = 0; back = 0 }
-
--- what a placed production makes, whose shape is known
-abbrev pub does_as : Shape → ℕ → Pass → Pass
-does_as shape place r = makes shape.act (place - shape.back) (sum_of shape.size r.counts) (rest_of shape.size r.counts) r.nodes
-
-abbrev pub does : List Shape → Placed → Pass → Pass
-does shapes s r = does_as (slice_index_or shapes s.production PLAIN) s.place r
-
-abbrev pub pass : List Shape → List Placed → Pass
-pass shapes [] = record { counts = []; nodes = [] }
-pass shapes (s ∷ ss) = does shapes s (pass shapes ss)
-
 -- what the code holds: the last item of each list is the newest
-abbrev pub kept : List ℕ → List Node → Pass
-kept cs ns = record { counts = reverse cs; nodes = reverse ns }
+abbrev pub held : List Part → List Node → State
+held ps ns = record { parts = reverse ps; nodes = ns }
 
-abbrev pub total : List ℕ → ℕ
+abbrev pub step_of : Weave → ℕ → State → State
+step_of w i s =
+    let whole = gathered w.takes s.parts in
+    let first = cond w.own (Some (i - 1)) whole.first in
+    record {
+      parts = record { first = first; count = count_under w.nodes whole.count } ∷ drop w.takes s.parts;
+      nodes = s.nodes ++ wrapped w.nodes (unwrap_or first 0) whole.count;
+    }
+
+abbrev pub run : List Weave → List Step → State → State
+run ws [] s = s
+run ws (x ∷ xs) s = run ws xs (step_of (weave_of ws x.action) x.token s)
+
+abbrev pub total : List Part → ℕ
 total [] = 0
-total (c ∷ cs) = c + total cs
+total (p ∷ ps) = p.count + total ps

@@ -1,12 +1,13 @@
-//! The first node of a parse tree, in the order of the text, that stands too deep, found without recursion.
+//! The first node of a tree that stands too deep, found from the tree's steps, without recursion and before the tree is
+//! built.
 //!
-//! A language says what each production makes of the trees below it. One pass from the right over the placed
-//! productions lists the nodes of the tree, and one from the left over the nodes finds the first that stands deeper
-//! than the limit.
+//! A language says of each action how many values it takes, how many nested nodes it puts over their trees, and whether
+//! it makes a value of the token right before it. One pass from the left over the steps lists the nodes, each after
+//! those inside it, and one from the right over the nodes finds the first of those that stand one deeper than the limit.
 #![tactic(auto)]
 
 mod depth;
-mod flat;
+mod weave;
 
 pub use depth::{Node, first_deeper};
-pub use flat::{Act, Shape, find_too_deep};
+pub use weave::{Weave, too_deep};

@@ -1,0 +1,5 @@
+pub mod StepsAt
+pub mod Typed
+pub mod Placed
+pub mod ExampleTables
+pub mod SumSteps
