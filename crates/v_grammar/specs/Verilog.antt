@@ -1,5 +1,4 @@
 -- The lists of the table of the Verilog profile.
-use Rattle.std.specs.Prelude.{ℕ}
 use Rattle.ll_parse.specs.Tables.{Lists}
 use Rattle.v_grammar.specs.declared.TheConstants.{HEADS, BODIES, SYMBOLS, NOT_BEFORE, ROWS, FOLLOWS, WITNESSES, RANKS, COSTS, NULLABLE}
 
@@ -16,5 +15,5 @@ VERILOG = record {
   ranks = RANKS;
   costs = COSTS;
   nullable = NULLABLE;
-  per_token = 18;
+  per_token = 35;
 }
