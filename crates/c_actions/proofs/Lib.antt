@@ -1,0 +1,6 @@
+pub mod Tops
+pub mod Fitting
+pub mod Turns
+pub mod Builds
+pub mod Only
+pub mod Laws

@@ -1,0 +1,5 @@
+use Rattle.c_actions.proofs.Laws.{tree_law}
+use Rattle.c_actions.proofs.tree_law.Goals as goal
+
+pub returns : goal.returns
+returns c = tree_law

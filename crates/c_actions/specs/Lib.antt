@@ -1,0 +1,11 @@
+pub mod Characters
+pub mod TokenActions
+pub mod ExpressionActions
+pub mod DeclarationActions
+pub mod StatementActions
+pub mod FileActions
+pub mod Numbers
+pub mod Acts
+pub mod Sorts
+pub mod Reading
+pub mod Laws
