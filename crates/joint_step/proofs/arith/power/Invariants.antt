@@ -1,5 +1,0 @@
-use Rattle.std.proofs.Common.{◌≡◌, ◌^◌}
-use Rattle.joint_step.proofs.arith.power.Given as goal
-
-abbrev pub invariant-loop-k : goal.invariant-loop-k
-invariant-loop-k l = l.p ≡ 2 ^ l.k

@@ -1,0 +1,7 @@
+pub mod Elements
+pub mod Nodes
+pub mod Numbers
+pub mod Ranges
+pub mod Shifts
+pub mod Stores
+pub mod Worked
