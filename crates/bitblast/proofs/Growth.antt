@@ -25,7 +25,7 @@ extends_then o m n x y = record {
 extends_none : (o : List Node) → Extends o o
 extends_none o = record { more = []; all = sym (append-nil o); gates = refl }
 
-old_node : (xs ys : List Node) (i : ℕ) (x : Node) → slice_get xs i ≡ Some x → slice_get (xs ++ ys) i ≡ Some x
+pub old_node : (xs ys : List Node) (i : ℕ) (x : Node) → slice_get xs i ≡ Some x → slice_get (xs ++ ys) i ≡ Some x
 old_node [] ys i x e = absurd (no_node x e)
   where
     no_node : (x : Node) → None ≡ Some x → ⊥

@@ -14,3 +14,16 @@ pub mod SignedLaws
 pub mod ShapeLaws
 pub mod Bounds
 pub mod NodeLaws
+pub mod TableLaws
+pub mod Placing
+pub mod Translating
+pub mod Waiting
+pub mod Naming
+pub mod Testing
+pub mod Inputs
+pub mod Stepping
+pub mod Stepped
+pub mod Ending
+pub mod Choosing
+pub mod Standing
+pub mod Placed

@@ -1,5 +1,5 @@
 -- The edges of nodes, by those of their parts.
-use Rattle.std.proofs.Common.{◌≡◌, ℕ, zero, suc, ◌+◌, ◌*◌, ◌%◌, ◌^◌, ◌<◌, ◌≤◌, Bool, true, false, List, [], ◌∷◌, length, get_or, refl, sym, ap, ◌∙◌, subst, arith}
+use Rattle.std.proofs.Common.{◌≡◌, ℕ, ◌+◌, ◌*◌, ◌^◌, ◌<◌, Bool, true, false, List, [], ◌∷◌, length, get_or, refl, sym, ap, ◌∙◌, subst, arith}
 use Rattle.std.specs.Prelude.{if◌then◌else◌}
 use Rattle.arrayvec.specs.ArrayVec.{ArrayVec}
 use Rattle.bits_core.specs.Word.{Word, at_zero, bit, resized}
@@ -18,7 +18,7 @@ use Rattle.word_eqs.specs.Meaning.{Values as Valuation, Respects}
 use Rattle.word_eqs.proofs.Evals.{words_of_terms}
 use Rattle.bitblast.specs.Circuit.{AreBelow, Grows, MakesWord, number_of}
 use Rattle.bitblast.specs.Wires.{AreWords, Fits, IsMade, IsReady, MakesNode, edges_at}
-use Rattle.bitblast.proofs.Growth.{grows_none, grows_within}
+use Rattle.bitblast.proofs.Growth.{grows_none}
 
 part_width : (o : List Node) (g : Graph) (vars words : List (ArrayVec Edge)) (t : ℕ) (xs : List Edge) → AreWords o g vars words → IsMade words t → xs ≡ edges_at words t → length xs ≡ width_in g t
 part_width o g vars words t xs w m e = ap length e ∙ w.widths.bits t m
@@ -63,7 +63,7 @@ two_node o n g vars words op a b xs ys es r e h x =
           ∙ ap (λ j. value2 op j (v.term a.0).value (v.term b.0).value) (l ∙ term_width o g vars words v a.0 r.words q r.fits.0);
     }
 
-one_bit : (s : ℕ → Bool) (cs : List Edge) (d : Edge) → length cs ≡ 1 → number_of s cs ≡ bit (edge_value s (get_or cs 0 d))
+pub one_bit : (s : ℕ → Bool) (cs : List Edge) (d : Edge) → length cs ≡ 1 → number_of s cs ≡ bit (edge_value s (get_or cs 0 d))
 one_bit s [] d e = absurd (omega arith)
 one_bit s (c ∷ []) d e = let h : bit (edge_value s c) + 2 * 0 ≡ bit (edge_value s c) = omega arith in h
 one_bit s (c ∷ b ∷ cs) d e = absurd (omega arith)

@@ -3,3 +3,7 @@ pub mod Bitwise
 pub mod Shifts
 pub mod Quotients
 pub mod Wires
+pub mod Table
+pub mod Blasted
+pub mod Making
+pub mod Order

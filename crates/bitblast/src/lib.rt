@@ -1,4 +1,4 @@
-//! Circuits of words over a net of gates.
+//! Circuits of words over a net of gates, and the net of a guarded list: `blast`.
 #![tactic(auto)]
 
 pub mod gates;
@@ -27,7 +27,26 @@ pub mod quotients;
 // All operations.
 pub mod operations;
 
+// Edges of all terms.
+pub mod edge_table;
+
 // Terms, one node at a time.
 pub mod nodes;
+
+// Terms and their parts, on demand.
+mod making;
+
+// Whether a list can be translated.
+mod order;
+
+// Lists of steps.
+mod blasting;
+
+pub use blasting::{Blasted, blast};
+pub use nodes::WireList;
+pub use order::{blast_if_ordered, is_ordered};
+
+#[cfg(test)]
+mod list_tests;
 #[cfg(test)]
 mod tests;

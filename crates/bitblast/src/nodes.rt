@@ -5,6 +5,7 @@ ghost use Rattle.word_eqs.specs.declared.term.TermNode.TheVariants.{Const, Var, 
 ghost use Rattle.bitblast.specs.Wires.{IsReady, MakesNode, edges_at};
 
 use crate::bitwise::{Wire, choose_word};
+use crate::edge_table::EdgeTable;
 use crate::operations::{operate1, operate2};
 use crate::shapes::{append, constant, join, resize, slice};
 use bits_core::{Op1, Op2, Word};
@@ -30,7 +31,7 @@ fn constant_edges(
     net: &mut Net,
     terms: &Terms,
     vars: &WireList,
-    words: &WireList,
+    words: &EdgeTable,
     word: Word,
 ) -> Result<Wire, AllocError>
     requires { IsReady net.old terms.now vars.now words.now (Const word) }
@@ -44,7 +45,7 @@ fn variable_edges(
     net: &mut Net,
     terms: &Terms,
     vars: &WireList,
-    words: &WireList,
+    words: &EdgeTable,
     x: VarId,
 ) -> Result<Wire, AllocError>
     requires { IsReady net.old terms.now vars.now words.now (Var x) }
@@ -60,14 +61,14 @@ fn one_edges(
     net: &mut Net,
     terms: &Terms,
     vars: &WireList,
-    words: &WireList,
+    words: &EdgeTable,
     op: Op1,
     a: TermId,
 ) -> Result<Wire, AllocError>
     requires { IsReady net.old terms.now vars.now words.now (One op a) }
     ensures { IfOk result (λ made. MakesNode net.old net.new terms.now vars.now words.now (One op a) made.items) }
 {
-    let made = operate1(net, op, edges_of(words, a.0))?;
+    let made = operate1(net, op, words.edges_of(a.0))?;
     Ok(made)
 }
 
@@ -76,7 +77,7 @@ fn two_edges(
     net: &mut Net,
     terms: &Terms,
     vars: &WireList,
-    words: &WireList,
+    words: &EdgeTable,
     op: Op2,
     a: TermId,
     b: TermId,
@@ -84,7 +85,7 @@ fn two_edges(
     requires { IsReady net.old terms.now vars.now words.now (Two op a b) }
     ensures { IfOk result (λ made. MakesNode net.old net.new terms.now vars.now words.now (Two op a b) made.items) }
 {
-    let made = operate2(net, op, edges_of(words, a.0), edges_of(words, b.0))?;
+    let made = operate2(net, op, words.edges_of(a.0), words.edges_of(b.0))?;
     Ok(made)
 }
 
@@ -93,7 +94,7 @@ fn choice_edges(
     net: &mut Net,
     terms: &Terms,
     vars: &WireList,
-    words: &WireList,
+    words: &EdgeTable,
     c: TermId,
     a: TermId,
     b: TermId,
@@ -101,8 +102,8 @@ fn choice_edges(
     requires { IsReady net.old terms.now vars.now words.now (Choose c a b) }
     ensures { IfOk result (λ made. MakesNode net.old net.new terms.now vars.now words.now (Choose c a b) made.items) }
 {
-    let condition = edges_of(words, c.0)[0];
-    let made = choose_word(net, condition, edges_of(words, a.0), edges_of(words, b.0))?;
+    let condition = words.edges_of(c.0)[0];
+    let made = choose_word(net, condition, words.edges_of(a.0), words.edges_of(b.0))?;
     Ok(made)
 }
 
@@ -111,7 +112,7 @@ fn resized_edges(
     net: &mut Net,
     terms: &Terms,
     vars: &WireList,
-    words: &WireList,
+    words: &EdgeTable,
     a: TermId,
     to: u8,
     signed: bool,
@@ -119,7 +120,7 @@ fn resized_edges(
     requires { IsReady net.old terms.now vars.now words.now (Resize a to signed) }
     ensures { IfOk result (λ made. MakesNode net.old net.new terms.now vars.now words.now (Resize a to signed) made.items) }
 {
-    Ok(resize(net, edges_of(words, a.0), to as usize, signed))
+    Ok(resize(net, words.edges_of(a.0), to as usize, signed))
 }
 
 /// The edges of a slice.
@@ -127,7 +128,7 @@ fn slice_edges(
     net: &mut Net,
     terms: &Terms,
     vars: &WireList,
-    words: &WireList,
+    words: &EdgeTable,
     a: TermId,
     high: u8,
     low: u8,
@@ -135,7 +136,7 @@ fn slice_edges(
     requires { IsReady net.old terms.now vars.now words.now (Slice a high low) }
     ensures { IfOk result (λ made. MakesNode net.old net.new terms.now vars.now words.now (Slice a high low) made.items) }
 {
-    Ok(slice(edges_of(words, a.0), high as usize, low as usize))
+    Ok(slice(words.edges_of(a.0), high as usize, low as usize))
 }
 
 /// The edges of a term on the left of another.
@@ -143,14 +144,14 @@ fn joined_edges(
     net: &mut Net,
     terms: &Terms,
     vars: &WireList,
-    words: &WireList,
+    words: &EdgeTable,
     a: TermId,
     b: TermId,
 ) -> Result<Wire, AllocError>
     requires { IsReady net.old terms.now vars.now words.now (Join a b) }
     ensures { IfOk result (λ made. MakesNode net.old net.new terms.now vars.now words.now (Join a b) made.items) }
 {
-    Ok(join(edges_of(words, a.0), edges_of(words, b.0)))
+    Ok(join(words.edges_of(a.0), words.edges_of(b.0)))
 }
 
 /// The edges of a node whose parts are made.
@@ -158,7 +159,7 @@ pub fn node_edges(
     net: &mut Net,
     terms: &Terms,
     vars: &WireList,
-    words: &WireList,
+    words: &EdgeTable,
     node: TermNode,
 ) -> Result<Wire, AllocError>
     requires { IsReady net.old terms.now vars.now words.now node }
