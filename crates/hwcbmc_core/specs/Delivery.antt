@@ -50,3 +50,9 @@ abbrev pub IsDelivered : Answer → ℕ → Stream → Stream → Stream → Str
 IsDelivered (Failed trace) given out out_after err err_after = IsSentAs (string_bytes trace) 10 given out out_after × (err_after ≡ err)
 IsDelivered Successful given out out_after err err_after = IsSentAs (message_of Successful) 0 given out out_after × (err_after ≡ err)
 IsDelivered answer given out out_after err err_after = IsSentAs (message_of answer) (status_of answer) given err err_after × (out_after ≡ out)
+
+-- The answer's text is put together of parts, which takes memory. The other texts are there already.
+abbrev pub IsComposed : Answer → Type 0
+IsComposed (ReadFault file) = Unit {0}
+IsComposed (Refused file refusal) = Unit {0}
+IsComposed answer = ⊥

@@ -1,7 +1,7 @@
 //! An answer's text and status, on the stream where it belongs.
 
 ghost use Rattle.std.specs.Prelude.{◌≡◌, ◌⊎◌, IfOk, MatchResult, string_bytes};
-ghost use Rattle.hwcbmc_core.specs.Delivery.{IsSentAs, IsDelivered, message_of};
+ghost use Rattle.hwcbmc_core.specs.Delivery.{IsSentAs, IsDelivered, IsComposed, message_of};
 
 use crate::answer::Answer;
 use io_edge::{Sink, write_all};
@@ -31,14 +31,15 @@ const STATUS_FAILED: u8 = 10;
 const STATUS_USAGE: u8 = 64;
 
 /// Writes the answer's text to its stream: verdicts to `out`, refusals to `err`. The status is the
-/// answer's own, but for a text that can't be made or written.
+/// answer's own, but for a text that can't be made or written. Only a text that names a file has to
+/// be made.
 pub fn deliver<O: Sink, E: Sink>(alloc: Global, answer: &Answer, out: &mut O, err: &mut E) -> u8
     ensures { IsDelivered answer.now result
         (record { written = O.written out.old; faults = O.faults out.old }) (record { written = O.written out.new; faults = O.faults out.new })
         (record { written = E.written err.old; faults = E.faults err.old }) (record { written = E.written err.new; faults = E.faults err.new })
-        ⊎ IsDelivered Answer.Memory result
+        ⊎ (IsComposed answer.now × IsDelivered Answer.Memory result
         (record { written = O.written out.old; faults = O.faults out.old }) (record { written = O.written out.new; faults = O.faults out.new })
-        (record { written = E.written err.old; faults = E.faults err.old }) (record { written = E.written err.new; faults = E.faults err.new }) }
+        (record { written = E.written err.old; faults = E.faults err.old }) (record { written = E.written err.new; faults = E.faults err.new })) }
 {
     match answer {
         Answer::Usage => send(err, USAGE, STATUS_USAGE),

@@ -9,7 +9,7 @@ use Rattle.hwcbmc_core.proofs.run.Goals as goal
 pub returns-clause-answered : goal.returns-clause-answered
 returns-clause-answered g c = elim c.deliver.ensures [
   | inl delivered ↦ (c.answer_for-answer.result, c.answer_for-answer.ensures.right, delivered)
-  | inr delivered ↦ (Memory, tt, delivered)
+  | inr want ↦ (Memory, tt, want.1)
 ]
 
 pub returns-clause-usage : goal.returns-clause-usage
