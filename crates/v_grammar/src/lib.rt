@@ -2,7 +2,7 @@
 //!
 //! `verilog.actions` has the productions to read, and `verilog.sorts` what each action takes and gives;
 //! `ll_parse/tools/table.py` made the numbers below from both, and the tests of the table check them. The kinds of token
-//! are those of `TokenKind` in `v_tokens`, and the actions are those of `v_build`.
+//! are those of `TokenKind` in `v_tokens`, and the actions are those of `v_actions`.
 #![tactic(auto)]
 
 ghost use Rattle.std.specs.Prelude.{◌≡◌};
@@ -4420,7 +4420,7 @@ static NULLABLE: [bool; 274] = [
 ];
 
 /// For each production, 0 or one more than the number of its action.
-static MARKS: [u16; 384] = [
+pub static MARKS: [u16; 384] = [
     0, 0, 0, 0, 0, 142, 0, 0, 0, 0, 0, 0, 0, 89, 0, 0, 0, 0, 0, 0, 86, 0, 146, 0, 0, 147, 0, 0, 0,
     0, 0, 0, 0, 0, 0, 102, 0, 104, 0, 0, 0, 0, 0, 60, 0, 0, 0, 0, 0, 0, 0, 0, 0, 0, 0, 0, 0, 0, 0,
     0, 0, 0, 0, 0, 0, 0, 0, 0, 105, 0, 0, 0, 0, 0, 120, 0, 0, 0, 0, 0, 0, 116, 0, 0, 0, 0, 0, 0,
@@ -4591,7 +4591,8 @@ static MARKS: [u16; 384] = [
 // action 150: no_modules
 // action 151: add_module
 // action 152: source
-static WEAVES: [Weave; 153] = [
+/// What each action makes of the nodes of the values that it takes.
+pub static WEAVES: [Weave; 153] = [
     Weave {
         takes: 0,
         nodes: 0,
