@@ -1,0 +1,12 @@
+pub mod Values
+pub mod Tokens
+pub mod Expr
+pub mod Stmt
+pub mod Declare
+pub mod Connect
+pub mod Module
+pub mod Numbers
+pub mod Acts
+pub mod Sorts
+pub mod Reading
+pub mod Laws

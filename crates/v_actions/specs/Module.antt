@@ -1,0 +1,72 @@
+-- Items, headers and modules: what each action makes of the stack. The last part is taken first.
+use Rattle.std.specs.Prelude.{[], ◌∷◌, ◌++◌, Option, Some}
+use Rattle.v_actions.specs.declared.values.Value.TheVariants as Value
+use Rattle.v_actions.specs.declared.values.DeclareValue.TheVariants as DeclareValue
+use Rattle.v_actions.specs.declared.values.ModuleValue.TheVariants as ModuleValue
+use Rattle.v_actions.specs.declared.actions.ModuleAction.{ModuleAction}
+use Rattle.v_actions.specs.declared.actions.ModuleAction.TheVariants as action
+use Rattle.v_actions.specs.Values.{Values, with_declarators, with_declared_names, with_direction, with_event, with_groups, with_header, with_instances, with_item, with_items, with_module, with_modules, with_name, with_names, with_net_assignments, with_net_kind, with_overrides, with_parameter_range, with_parameters, with_place, with_ports, with_range_option, with_registers, with_sign, with_stmt}
+use Rattle.v_tree.specs.declared.item.Header.TheVariants as Header
+use Rattle.v_tree.specs.declared.item.Item.TheVariants as Item
+
+abbrev pub module_act : ModuleAction → Values → Option Values
+module_act action.PortItem st =
+    with_declared_names st (λ names st. with_range_option st (λ range st. with_sign st (λ signed st. with_net_kind st (λ net st. with_direction st (λ direction st.
+    Some (Value.Module (ModuleValue.Item (Item.Port (record { direction = direction; net = net; signed = signed; range = range; names = names }))) ∷ st))))))
+module_act action.NetItem st =
+    with_declarators st (λ nets st. with_range_option st (λ range st. with_sign st (λ signed st. with_place st (λ place st.
+    Some (Value.Module (ModuleValue.Item (Item.Net (record { place = place; signed = signed; range = range; nets = nets }))) ∷ st)))))
+module_act action.RegItem st =
+    with_registers st (λ registers st. with_range_option st (λ range st. with_sign st (λ signed st. with_place st (λ place st.
+    Some (Value.Module (ModuleValue.Item (Item.Reg (record { place = place; signed = signed; range = range; registers = registers }))) ∷ st)))))
+module_act action.IntegerItem st =
+    with_declared_names st (λ names st. with_place st (λ place st.
+    Some (Value.Module (ModuleValue.Item (Item.Integer (record { place = place; names = names }))) ∷ st)))
+module_act action.ParameterItem st =
+    with_parameters st (λ parameters st. with_parameter_range st (λ range st. with_place st (λ place st.
+    Some (Value.Module (ModuleValue.Item (Item.Parameter (record { place = place; range = range; parameters = parameters }))) ∷ st))))
+module_act action.LocalParameterItem st =
+    with_parameters st (λ parameters st. with_parameter_range st (λ range st. with_place st (λ place st.
+    Some (Value.Module (ModuleValue.Item (Item.LocalParameter (record { place = place; range = range; parameters = parameters }))) ∷ st))))
+module_act action.AssignItem st =
+    with_net_assignments st (λ assignments st. with_place st (λ place st.
+    Some (Value.Module (ModuleValue.Item (Item.Assign (record { place = place; assignments = assignments }))) ∷ st)))
+module_act action.AlwaysItem st =
+    with_stmt st (λ body st. with_event st (λ event st. with_place st (λ place st.
+    Some (Value.Module (ModuleValue.Item (Item.Always (record { place = place; event = event; body = body }))) ∷ st))))
+module_act action.InitialItem st =
+    with_stmt st (λ body st. with_place st (λ place st.
+    Some (Value.Module (ModuleValue.Item (Item.Initial place body)) ∷ st)))
+module_act action.InstancesItem st =
+    with_instances st (λ instances st. with_overrides st (λ overrides st. with_name st (λ kind st.
+    Some (Value.Module (ModuleValue.Item (Item.Instances (record { «module» = kind; overrides = overrides; instances = instances }))) ∷ st))))
+module_act action.NoItems st = Some (Value.Module (ModuleValue.Items []) ∷ st)
+module_act action.AddItem st =
+    with_item st (λ item st. with_items st (λ items st.
+    Some (Value.Module (ModuleValue.Items (items ++ item ∷ [])) ∷ st)))
+module_act action.NoGroups st = Some (Value.Declare (DeclareValue.Groups []) ∷ st)
+module_act action.CloseGroup st =
+    with_parameters st (λ parameters st. with_parameter_range st (λ range st. with_place st (λ place st. with_groups st (λ groups st.
+    Some (Value.Declare (DeclareValue.Groups (groups ++ (record { place = place; range = range; parameters = parameters }) ∷ [])) ∷ st)))))
+module_act action.NoPorts st = Some (Value.Module (ModuleValue.Ports []) ∷ st)
+module_act action.ClosePort st =
+    with_declarators st (λ names st. with_range_option st (λ range st. with_sign st (λ signed st. with_net_kind st (λ net st. with_direction st (λ direction st. with_ports st (λ ports st.
+    Some (Value.Module (ModuleValue.Ports (ports ++ (record { direction = direction; net = net; signed = signed; range = range; names = names }) ∷ [])) ∷ st)))))))
+module_act action.AbsentHeader st = Some (Value.Module (ModuleValue.Header Header.Absent) ∷ st)
+module_act action.EmptyHeader st = Some (Value.Module (ModuleValue.Header Header.Empty) ∷ st)
+module_act action.HeaderNames st =
+    with_names st (λ names st.
+    Some (Value.Module (ModuleValue.Header (Header.Names names)) ∷ st))
+module_act action.HeaderPorts st =
+    with_ports st (λ ports st.
+    Some (Value.Module (ModuleValue.Header (Header.Ports ports)) ∷ st))
+module_act action.Module st =
+    with_items st (λ items st. with_header st (λ header st. with_groups st (λ groups st. with_name st (λ name st. with_place st (λ place st.
+    Some (Value.Module (ModuleValue.Module (record { place = place; name = name; parameters = groups; header = header; items = items })) ∷ st))))))
+module_act action.NoModules st = Some (Value.Module (ModuleValue.Modules []) ∷ st)
+module_act action.AddModule st =
+    with_module st (λ unit st. with_modules st (λ units st.
+    Some (Value.Module (ModuleValue.Modules (units ++ unit ∷ [])) ∷ st)))
+module_act action.Source st =
+    with_modules st (λ modules st.
+    Some (Value.Module (ModuleValue.Source (record { modules = modules })) ∷ st))
