@@ -1,0 +1,15 @@
+use Rattle.std.proofs.Common.{◌≡◌, [], ◌∷◌, ◌++◌, Some, None, reverse, sym, ◌∙◌}
+use Rattle.c_parts.proofs.Takings.{three_found, three_lost}
+use Rattle.c_values.specs.Values.{with_declarators, with_place, with_type}
+use Rattle.c_values.specs.declared.values.Value.TheVariants as value
+use Rattle.c_values.specs.declared.values.DeclarationValue.TheVariants as declaration_value
+use Rattle.c_make_declarations.proofs.declaration_actions.make_const_local.Goals as goal
+
+pub returns : goal.returns
+returns c =
+    let e = three_found c.take_declarators-declarators.result c.take_type-type_name.result c.take_place-place.result (with_declarators (reverse c.args.stack.now.items)) with_type with_place (reverse c.take_declarators-declarators.new.stack.items) (reverse c.take_type-type_name.new.stack.items) (reverse c.take_place-place.new.stack.items) c.take_declarators-declarators.ensures c.take_type-type_name.ensures c.take_place-place.ensures (λ declarators type_name place rest. Some (value.Declaration (declaration_value.Local (record { constant = Some place; type_name = type_name; declarators = declarators })) ∷ rest)) (c.in-Some.declarators, c.in-Some.type_name, c.in-Some.place) (sym c.all_three.ensures ∙ c.in-Some.is) in
+    let p = c.in_ok-put.ensures in
+    cc
+
+pub returns-in_default : goal.returns-in_default
+returns-in_default c = three_lost c.take_declarators-declarators.result c.take_type-type_name.result c.take_place-place.result (with_declarators (reverse c.args.stack.now.items)) with_type with_place (reverse c.take_declarators-declarators.new.stack.items) (reverse c.take_type-type_name.new.stack.items) (reverse c.take_place-place.new.stack.items) c.take_declarators-declarators.ensures c.take_type-type_name.ensures c.take_place-place.ensures (λ declarators type_name place rest. Some (value.Declaration (declaration_value.Local (record { constant = Some place; type_name = type_name; declarators = declarators })) ∷ rest)) (sym c.all_three.ensures ∙ c.in_default.is)

@@ -1,0 +1,16 @@
+use Rattle.std.proofs.Common.{◌≡◌, [], ◌∷◌, ◌++◌, Some, None, reverse, sym, ◌∙◌}
+use Rattle.c_parts.proofs.Takings.{three_found, three_lost}
+use Rattle.c_values.specs.Values.{with_expression, with_expressions, with_name}
+use Rattle.c_tree.specs.declared.declarations.Declarator.TheVariants as declarator
+use Rattle.c_values.specs.declared.values.Value.TheVariants as value
+use Rattle.c_values.specs.declared.values.DeclarationValue.TheVariants as declaration_value
+use Rattle.c_make_declarations.proofs.declaration_actions.make_initialized_array.Goals as goal
+
+pub returns : goal.returns
+returns c =
+    let e = three_found c.take_expressions-elements.result c.take_expression-len.result c.take_name-name.result (with_expressions (reverse c.args.stack.now.items)) with_expression with_name (reverse c.take_expressions-elements.new.stack.items) (reverse c.take_expression-len.new.stack.items) (reverse c.take_name-name.new.stack.items) c.take_expressions-elements.ensures c.take_expression-len.ensures c.take_name-name.ensures (λ elements len name rest. Some (value.Declaration (declaration_value.Declarator (declarator.InitializedArray name len elements)) ∷ rest)) (c.in-Some.elements, c.in-Some.len, c.in-Some.name) (sym c.all_three.ensures ∙ c.in-Some.is) in
+    let p = c.in_ok-put.ensures in
+    cc
+
+pub returns-in_default : goal.returns-in_default
+returns-in_default c = three_lost c.take_expressions-elements.result c.take_expression-len.result c.take_name-name.result (with_expressions (reverse c.args.stack.now.items)) with_expression with_name (reverse c.take_expressions-elements.new.stack.items) (reverse c.take_expression-len.new.stack.items) (reverse c.take_name-name.new.stack.items) c.take_expressions-elements.ensures c.take_expression-len.ensures c.take_name-name.ensures (λ elements len name rest. Some (value.Declaration (declaration_value.Declarator (declarator.InitializedArray name len elements)) ∷ rest)) (sym c.all_three.ensures ∙ c.in_default.is)
