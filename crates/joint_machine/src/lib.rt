@@ -4,6 +4,7 @@
 //! loops and calls, and of how all runs are searched.
 #![tactic(auto)]
 
+pub mod activation;
 pub mod machine;
 pub mod reaching;
 pub mod simple;

@@ -3,7 +3,7 @@
 ghost use Rattle.std.specs.Prelude.{◌≡◌, ◌<◌, ◌^◌, [], ◌+◌, length, map, drop, All, IfOk, IfSome, pos, IsSome, MatchOption, slice_index_or, if◌then◌else◌};
 ghost use Rattle.joint_ir.specs.Effects.{with_values, with_value, draw as drawn, broken, Stops, Goes, Next};
 ghost use Rattle.joint_ir.specs.Steps.{rows_in, with_index, within_bounds, store_at, update_effect, slot_type as type_of, free_elements as free_elements_of, set_elements as set_elements_of, element_of, right_value, first_value};
-ghost use Rattle.joint_ir.specs.Statements.{set_params as params_set, any_result as any_result_of};
+ghost use Rattle.joint_ir.specs.Statements.{set_params as params_set, any_result as any_result_of, condition_value};
 ghost use Rattle.joint_ir.specs.Types.{InRange, IsType, converted as converted_to};
 ghost use Rattle.joint_ir.specs.Values.{value_of, binary_value, is_zero};
 ghost use Rattle.joint_ir.specs.WellFormed.{FitsExpr, FitsOption, FitsTarget, FitsUpdate, IsWellFormed, right_type};
@@ -299,6 +299,28 @@ impl Machine {
             self.returned = self.any_number(ty)?;
         }
         Ok(())
+    }
+
+    /// Whether a loop stops at its condition. One without a condition goes on.
+    pub fn stops(
+        &self,
+        pair: &Pair,
+        bounds: &Bounds,
+        here: u32,
+        cond: &Option<Boxed<TExpr>>,
+    ) -> Result<bool, Halt>
+        requires well { IsWellFormed pair.now }
+        requires ready { IsReady pair.now self.now }
+        requires fits { Stands pair.now here (λ c. FitsOption c cond.now) }
+        ensures finds { Finds result self.now self.now (λ go s c. with_value (condition_value (rows_in (setting pair.now bounds.now here) s) cond.now) c (λ n. go (is_zero n) s c)) }
+    {
+        match cond {
+            None => Ok(false),
+            Some(e) => {
+                let n = self.value(pair, bounds.frames, here, e.get())?;
+                Ok(n == 0)
+            }
+        }
     }
 
     /// An assertion, which breaks its property where it's 0.
