@@ -1,0 +1,16 @@
+use Rattle.std.proofs.Common.{◌≡◌, [], ◌∷◌, ◌++◌, Some, None, reverse, sym, ◌∙◌}
+use Rattle.c_parts.proofs.Takings.{three_found, three_lost}
+use Rattle.c_values.specs.Values.{with_declared, with_place, with_type}
+use Rattle.c_tree.specs.declared.file.External.TheVariants as external
+use Rattle.c_values.specs.declared.values.Value.TheVariants as value
+use Rattle.c_values.specs.declared.values.FileValue.TheVariants as file_value
+use Rattle.c_make_statements.proofs.file_actions.make_bound.Goals as goal
+
+pub returns : goal.returns
+returns c =
+    let e = three_found c.take_declared-name.result c.take_type-type_name.result c.take_place-place.result (with_declared (reverse c.args.stack.now.items)) with_type with_place (reverse c.take_declared-name.new.stack.items) (reverse c.take_type-type_name.new.stack.items) (reverse c.take_place-place.new.stack.items) c.take_declared-name.ensures c.take_type-type_name.ensures c.take_place-place.ensures (λ name type_name place rest. Some (value.File (file_value.External (external.Bound place type_name name)) ∷ rest)) (c.in-Some.name, c.in-Some.type_name, c.in-Some.place) (sym c.all_three.ensures ∙ c.in-Some.is) in
+    let p = c.in_ok-put.ensures in
+    cc
+
+pub returns-in_default : goal.returns-in_default
+returns-in_default c = three_lost c.take_declared-name.result c.take_type-type_name.result c.take_place-place.result (with_declared (reverse c.args.stack.now.items)) with_type with_place (reverse c.take_declared-name.new.stack.items) (reverse c.take_type-type_name.new.stack.items) (reverse c.take_place-place.new.stack.items) c.take_declared-name.ensures c.take_type-type_name.ensures c.take_place-place.ensures (λ name type_name place rest. Some (value.File (file_value.External (external.Bound place type_name name)) ∷ rest)) (sym c.all_three.ensures ∙ c.in_default.is)

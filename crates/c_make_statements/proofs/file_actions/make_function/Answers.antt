@@ -1,0 +1,16 @@
+use Rattle.std.proofs.Common.{◌≡◌, [], ◌∷◌, ◌++◌, Some, None, reverse, sym, ◌∙◌}
+use Rattle.c_parts.proofs.Takings.{three_found, three_lost}
+use Rattle.c_values.specs.Values.{with_function, with_parameters, with_storage}
+use Rattle.c_tree.specs.declared.file.External.TheVariants as external
+use Rattle.c_values.specs.declared.values.Value.TheVariants as value
+use Rattle.c_values.specs.declared.values.FileValue.TheVariants as file_value
+use Rattle.c_make_statements.proofs.file_actions.make_function.Goals as goal
+
+pub returns : goal.returns
+returns c =
+    let e = three_found c.take_parameters-parameters.result c.take_function-function.result c.take_storage-class.result (with_parameters (reverse c.args.stack.now.items)) with_function with_storage (reverse c.take_parameters-parameters.new.stack.items) (reverse c.take_function-function.new.stack.items) (reverse c.take_storage-class.new.stack.items) c.take_parameters-parameters.ensures c.take_function-function.ensures c.take_storage-class.ensures (λ parameters function class rest. Some (value.File (file_value.External (external.Function (record { storage = class; result = function.result; name = function.name; parameters = parameters }))) ∷ rest)) (c.in-Some.parameters, c.in-Some.function, c.in-Some.class) (sym c.all_three.ensures ∙ c.in-Some.is) in
+    let p = c.in_ok-put.ensures in
+    cc
+
+pub returns-in_default : goal.returns-in_default
+returns-in_default c = three_lost c.take_parameters-parameters.result c.take_function-function.result c.take_storage-class.result (with_parameters (reverse c.args.stack.now.items)) with_function with_storage (reverse c.take_parameters-parameters.new.stack.items) (reverse c.take_function-function.new.stack.items) (reverse c.take_storage-class.new.stack.items) c.take_parameters-parameters.ensures c.take_function-function.ensures c.take_storage-class.ensures (λ parameters function class rest. Some (value.File (file_value.External (external.Function (record { storage = class; result = function.result; name = function.name; parameters = parameters }))) ∷ rest)) (sym c.all_three.ensures ∙ c.in_default.is)

@@ -1,0 +1,10 @@
+use Rattle.std.proofs.Common.{◌≡◌, [], ◌∷◌, ◌++◌, Some, None, reverse, sym, ◌∙◌}
+use Rattle.c_parts.proofs.Takings.{two_found, two_lost}
+use Rattle.c_values.specs.Values.{with_local, with_parts}
+use Rattle.c_tree.specs.declared.statements.BlockItem.TheVariants as block_item
+use Rattle.c_values.specs.declared.values.Value.TheVariants as value
+use Rattle.c_values.specs.declared.values.StatementValue.TheVariants as statement_value
+use Rattle.c_make_statements.proofs.statement_actions.make_add_local.Goals as goal
+
+pub returns-in_default : goal.returns-in_default
+returns-in_default c = two_lost c.take_local-part.result c.take_parts-parts.result (with_local (reverse c.args.stack.now.items)) with_parts (reverse c.take_local-part.new.stack.items) (reverse c.take_parts-parts.new.stack.items) c.take_local-part.ensures c.take_parts-parts.ensures (λ part parts rest. Some (value.Statement (statement_value.Parts (parts ++ (block_item.Local part) ∷ [])) ∷ rest)) (sym c.all_two.ensures ∙ c.in_default.is)

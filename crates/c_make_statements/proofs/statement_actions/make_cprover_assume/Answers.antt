@@ -1,0 +1,16 @@
+use Rattle.std.proofs.Common.{◌≡◌, [], ◌∷◌, ◌++◌, Some, None, reverse, sym, ◌∙◌}
+use Rattle.c_parts.proofs.Takings.{two_found, two_lost}
+use Rattle.c_values.specs.Values.{with_expression, with_place}
+use Rattle.c_tree.specs.declared.statements.Statement.TheVariants as statement
+use Rattle.c_values.specs.declared.values.Value.TheVariants as value
+use Rattle.c_values.specs.declared.values.StatementValue.TheVariants as statement_value
+use Rattle.c_make_statements.proofs.statement_actions.make_cprover_assume.Goals as goal
+
+pub returns : goal.returns
+returns c =
+    let e = two_found c.take_expression-condition.result c.take_place-place.result (with_expression (reverse c.args.stack.now.items)) with_place (reverse c.take_expression-condition.new.stack.items) (reverse c.take_place-place.new.stack.items) c.take_expression-condition.ensures c.take_place-place.ensures (λ condition place rest. Some (value.Statement (statement_value.Statement (statement.CproverAssume place condition)) ∷ rest)) (c.in-Some.condition, c.in-Some.place) (sym c.all_two.ensures ∙ c.in-Some.is) in
+    let p = c.in_ok-put.ensures in
+    cc
+
+pub returns-in_default : goal.returns-in_default
+returns-in_default c = two_lost c.take_expression-condition.result c.take_place-place.result (with_expression (reverse c.args.stack.now.items)) with_place (reverse c.take_expression-condition.new.stack.items) (reverse c.take_place-place.new.stack.items) c.take_expression-condition.ensures c.take_place-place.ensures (λ condition place rest. Some (value.Statement (statement_value.Statement (statement.CproverAssume place condition)) ∷ rest)) (sym c.all_two.ensures ∙ c.in_default.is)

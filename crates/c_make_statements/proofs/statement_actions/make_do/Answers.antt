@@ -1,0 +1,19 @@
+use Rattle.std.proofs.Common.{◌≡◌, [], ◌∷◌, ◌++◌, Some, None, reverse, sym, ◌∙◌}
+use Rattle.c_parts.proofs.Takings.{three_found, three_lost}
+use Rattle.c_values.specs.Values.{with_expression, with_place, with_statement}
+use Rattle.c_tree.specs.declared.statements.Statement.TheVariants as statement
+use Rattle.c_values.specs.declared.values.Value.TheVariants as value
+use Rattle.c_values.specs.declared.values.StatementValue.TheVariants as statement_value
+use Rattle.c_make_statements.proofs.statement_actions.make_do.Goals as goal
+
+pub returns : goal.returns
+returns c =
+    let e = three_found c.take_expression-condition.result c.take_statement-body.result c.take_place-place.result (with_expression (reverse c.args.stack.now.items)) with_statement with_place (reverse c.take_expression-condition.new.stack.items) (reverse c.take_statement-body.new.stack.items) (reverse c.take_place-place.new.stack.items) c.take_expression-condition.ensures c.take_statement-body.ensures c.take_place-place.ensures (λ condition body place rest. Some (value.Statement (statement_value.Statement (statement.Do place body condition)) ∷ rest)) (c.in-Some.condition, c.in-Some.body, c.in-Some.place) (sym c.all_three.ensures ∙ c.in-Some.is) in
+    let f0 = c.in_ok-body.ensures in
+    let g0 = f0.0 in
+    let h0 = f0.1 in
+    let p = c.in_ok-put.ensures in
+    cc
+
+pub returns-in_default : goal.returns-in_default
+returns-in_default c = three_lost c.take_expression-condition.result c.take_statement-body.result c.take_place-place.result (with_expression (reverse c.args.stack.now.items)) with_statement with_place (reverse c.take_expression-condition.new.stack.items) (reverse c.take_statement-body.new.stack.items) (reverse c.take_place-place.new.stack.items) c.take_expression-condition.ensures c.take_statement-body.ensures c.take_place-place.ensures (λ condition body place rest. Some (value.Statement (statement_value.Statement (statement.Do place body condition)) ∷ rest)) (sym c.all_three.ensures ∙ c.in_default.is)

@@ -1,0 +1,16 @@
+use Rattle.std.proofs.Common.{◌≡◌, [], ◌∷◌, ◌++◌, Some, None, reverse, sym, ◌∙◌}
+use Rattle.c_parts.proofs.Takings.{two_found, two_lost}
+use Rattle.c_values.specs.Values.{with_path, with_step_mark}
+use Rattle.c_tree.specs.declared.statements.Simple.TheVariants as simple
+use Rattle.c_values.specs.declared.values.Value.TheVariants as value
+use Rattle.c_values.specs.declared.values.StatementValue.TheVariants as statement_value
+use Rattle.c_make_statements.proofs.statement_actions.make_step_before.Goals as goal
+
+pub returns : goal.returns
+returns c =
+    let e = two_found c.take_path-target.result c.take_step_mark-mark.result (with_path (reverse c.args.stack.now.items)) with_step_mark (reverse c.take_path-target.new.stack.items) (reverse c.take_step_mark-mark.new.stack.items) c.take_path-target.ensures c.take_step_mark-mark.ensures (λ target mark rest. Some (value.Statement (statement_value.Simple (simple.StepBefore mark target)) ∷ rest)) (c.in-Some.target, c.in-Some.mark) (sym c.all_two.ensures ∙ c.in-Some.is) in
+    let p = c.in_ok-put.ensures in
+    cc
+
+pub returns-in_default : goal.returns-in_default
+returns-in_default c = two_lost c.take_path-target.result c.take_step_mark-mark.result (with_path (reverse c.args.stack.now.items)) with_step_mark (reverse c.take_path-target.new.stack.items) (reverse c.take_step_mark-mark.new.stack.items) c.take_path-target.ensures c.take_step_mark-mark.ensures (λ target mark rest. Some (value.Statement (statement_value.Simple (simple.StepBefore mark target)) ∷ rest)) (sym c.all_two.ensures ∙ c.in_default.is)

@@ -1,0 +1,567 @@
+//! Actions of statements (ISO C99, 6.8).
+
+ghost use Rattle.std.specs.Prelude.{IfOk, reverse};
+ghost use Rattle.c_values.specs.Values.{Fits};
+ghost use Rattle.c_actions.specs.StatementActions.{after_add_group, after_add_label, after_add_local, after_add_statement, after_add_to_group, after_assert, after_assign, after_block, after_break, after_call, after_case, after_compound, after_continue, after_cprover_assert, after_cprover_assume, after_default, after_do, after_empty, after_first_label, after_for_local, after_for_nothing, after_for_simple, after_group, after_if_alone, after_if_else, after_labelled, after_no_groups, after_no_items, after_no_simple, after_return, after_simple, after_some_simple, after_step_after, after_step_before, after_switch, after_update, after_while};
+
+use c_parts::{all_four, all_three, all_two, boxed_with, label_start};
+use c_tree::{Block, BlockItem, Call, ForFirst, Group, Label, Simple, Statement};
+use c_values::{
+    Labels, StatementValue, SwitchValue, Value, put, take_assignment_mark, take_block,
+    take_expression, take_expressions, take_group, take_groups, take_initializer,
+    take_initializer_option, take_label, take_labelled, take_labels, take_local, take_name,
+    take_parts, take_path, take_place, take_simple, take_statement, take_step_mark,
+};
+use sqlite_items::Items;
+use std::alloc::{AllocError, Global};
+
+/// `Simple = Call`
+pub fn make_call(stack: &mut Vec<Value>) -> Result<bool, AllocError>
+    ensures { IfOk result (λ fits. Fits fits (reverse stack.new.items) (after_call (reverse stack.old.items))) }
+{
+    let arguments = take_expressions(stack);
+    let name = take_name(stack);
+    let Some((arguments, name)) = all_two(arguments, name) else {
+        return Ok(false);
+    };
+    put(
+        stack,
+        Value::Statement(StatementValue::Simple(Simple::Called(Call { name, arguments }))),
+    )?;
+    Ok(true)
+}
+
+/// `Simple = Path "=" Init`
+pub fn make_assign(stack: &mut Vec<Value>) -> Result<bool, AllocError>
+    ensures { IfOk result (λ fits. Fits fits (reverse stack.new.items) (after_assign (reverse stack.old.items))) }
+{
+    let given = take_initializer(stack);
+    let target = take_path(stack);
+    let Some((given, target)) = all_two(given, target) else {
+        return Ok(false);
+    };
+    put(
+        stack,
+        Value::Statement(StatementValue::Simple(Simple::Assign(target, given))),
+    )?;
+    Ok(true)
+}
+
+/// `Simple = Path OpAssign Expression`
+pub fn make_update(stack: &mut Vec<Value>) -> Result<bool, AllocError>
+    ensures { IfOk result (λ fits. Fits fits (reverse stack.new.items) (after_update (reverse stack.old.items))) }
+{
+    let operand = take_expression(stack);
+    let mark = take_assignment_mark(stack);
+    let target = take_path(stack);
+    let Some((operand, mark, target)) = all_three(operand, mark, target) else {
+        return Ok(false);
+    };
+    put(
+        stack,
+        Value::Statement(StatementValue::Simple(Simple::Update(target, mark, operand))),
+    )?;
+    Ok(true)
+}
+
+/// `Simple = Path ("++" | "--")`
+pub fn make_step_after(stack: &mut Vec<Value>) -> Result<bool, AllocError>
+    ensures { IfOk result (λ fits. Fits fits (reverse stack.new.items) (after_step_after (reverse stack.old.items))) }
+{
+    let mark = take_step_mark(stack);
+    let target = take_path(stack);
+    let Some((mark, target)) = all_two(mark, target) else {
+        return Ok(false);
+    };
+    put(
+        stack,
+        Value::Statement(StatementValue::Simple(Simple::StepAfter(target, mark))),
+    )?;
+    Ok(true)
+}
+
+/// `Simple = ("++" | "--") Path`
+pub fn make_step_before(stack: &mut Vec<Value>) -> Result<bool, AllocError>
+    ensures { IfOk result (λ fits. Fits fits (reverse stack.new.items) (after_step_before (reverse stack.old.items))) }
+{
+    let target = take_path(stack);
+    let mark = take_step_mark(stack);
+    let Some((target, mark)) = all_two(target, mark) else {
+        return Ok(false);
+    };
+    put(
+        stack,
+        Value::Statement(StatementValue::Simple(Simple::StepBefore(mark, target))),
+    )?;
+    Ok(true)
+}
+
+/// No simple statement.
+pub fn make_no_simple(stack: &mut Vec<Value>) -> Result<bool, AllocError>
+    ensures { IfOk result (λ fits. Fits fits (reverse stack.new.items) (after_no_simple (reverse stack.old.items))) }
+{
+    put(stack, Value::Statement(StatementValue::SimpleOption(None)))?;
+    Ok(true)
+}
+
+/// A simple statement where there may be none.
+pub fn make_some_simple(stack: &mut Vec<Value>) -> Result<bool, AllocError>
+    ensures { IfOk result (λ fits. Fits fits (reverse stack.new.items) (after_some_simple (reverse stack.old.items))) }
+{
+    let Some(part) = take_simple(stack) else {
+        return Ok(false);
+    };
+    put(
+        stack,
+        Value::Statement(StatementValue::SimpleOption(Some(part))),
+    )?;
+    Ok(true)
+}
+
+/// Nothing before the first `;` of a `for`
+pub fn make_for_nothing(stack: &mut Vec<Value>) -> Result<bool, AllocError>
+    ensures { IfOk result (λ fits. Fits fits (reverse stack.new.items) (after_for_nothing (reverse stack.old.items))) }
+{
+    put(
+        stack,
+        Value::Statement(StatementValue::ForFirst(ForFirst::Nothing)),
+    )?;
+    Ok(true)
+}
+
+/// A declaration in the head of a `for`
+pub fn make_for_local(stack: &mut Vec<Value>) -> Result<bool, AllocError>
+    ensures { IfOk result (λ fits. Fits fits (reverse stack.new.items) (after_for_local (reverse stack.old.items))) }
+{
+    let Some(part) = take_local(stack) else {
+        return Ok(false);
+    };
+    put(
+        stack,
+        Value::Statement(StatementValue::ForFirst(ForFirst::Local(part))),
+    )?;
+    Ok(true)
+}
+
+/// A simple statement in the head of a `for`
+pub fn make_for_simple(stack: &mut Vec<Value>) -> Result<bool, AllocError>
+    ensures { IfOk result (λ fits. Fits fits (reverse stack.new.items) (after_for_simple (reverse stack.old.items))) }
+{
+    let Some(part) = take_simple(stack) else {
+        return Ok(false);
+    };
+    put(
+        stack,
+        Value::Statement(StatementValue::ForFirst(ForFirst::Simple(part))),
+    )?;
+    Ok(true)
+}
+
+/// `Label = "case" Expression ":"`
+pub fn make_case(stack: &mut Vec<Value>) -> Result<bool, AllocError>
+    ensures { IfOk result (λ fits. Fits fits (reverse stack.new.items) (after_case (reverse stack.old.items))) }
+{
+    let given = take_expression(stack);
+    let place = take_place(stack);
+    let Some((given, place)) = all_two(given, place) else {
+        return Ok(false);
+    };
+    put(
+        stack,
+        Value::Statement(StatementValue::Label(Label::Case(place, given))),
+    )?;
+    Ok(true)
+}
+
+/// `Label = "default" ":"`
+pub fn make_default(stack: &mut Vec<Value>) -> Result<bool, AllocError>
+    ensures { IfOk result (λ fits. Fits fits (reverse stack.new.items) (after_default (reverse stack.old.items))) }
+{
+    let Some(place) = take_place(stack) else {
+        return Ok(false);
+    };
+    put(
+        stack,
+        Value::Statement(StatementValue::Label(Label::Default(place))),
+    )?;
+    Ok(true)
+}
+
+/// The first label of a group.
+pub fn make_first_label(alloc: Global, stack: &mut Vec<Value>) -> Result<bool, AllocError>
+    ensures { IfOk result (λ fits. Fits fits (reverse stack.new.items) (after_first_label (reverse stack.old.items))) }
+{
+    let Some(label_made) = take_label(stack) else {
+        return Ok(false);
+    };
+    let label_place = label_start(&label_made);
+    put(
+        stack,
+        Value::Switch(SwitchValue::Labels(Labels {
+            place: label_place,
+            labels: Items::from_vec(vec![in alloc; label_made]?),
+        })),
+    )?;
+    Ok(true)
+}
+
+/// One more label of a group.
+pub fn make_add_label(stack: &mut Vec<Value>) -> Result<bool, AllocError>
+    ensures { IfOk result (λ fits. Fits fits (reverse stack.new.items) (after_add_label (reverse stack.old.items))) }
+{
+    let label_made = take_label(stack);
+    let labels = take_labels(stack);
+    let Some((label_made, mut labels)) = all_two(label_made, labels) else {
+        return Ok(false);
+    };
+    labels.labels.push(label_made)?;
+    put(stack, Value::Switch(SwitchValue::Labels(labels)))?;
+    Ok(true)
+}
+
+/// The end of the labels of a group.
+pub fn make_labelled(alloc: Global, stack: &mut Vec<Value>) -> Result<bool, AllocError>
+    ensures { IfOk result (λ fits. Fits fits (reverse stack.new.items) (after_labelled (reverse stack.old.items))) }
+{
+    let Some(labels) = take_labels(stack) else {
+        return Ok(false);
+    };
+    put(
+        stack,
+        Value::Switch(SwitchValue::Labelled(Group {
+            place: labels.place,
+            labels: labels.labels,
+            body: Items::new(alloc),
+        })),
+    )?;
+    Ok(true)
+}
+
+/// One more statement of a group.
+pub fn make_add_to_group(stack: &mut Vec<Value>) -> Result<bool, AllocError>
+    ensures { IfOk result (λ fits. Fits fits (reverse stack.new.items) (after_add_to_group (reverse stack.old.items))) }
+{
+    let part = take_statement(stack);
+    let labelled = take_labelled(stack);
+    let Some((part, mut labelled)) = all_two(part, labelled) else {
+        return Ok(false);
+    };
+    labelled.body.push(part)?;
+    put(stack, Value::Switch(SwitchValue::Labelled(labelled)))?;
+    Ok(true)
+}
+
+/// `Group = Label { Label } { Statement }`
+pub fn make_group(stack: &mut Vec<Value>) -> Result<bool, AllocError>
+    ensures { IfOk result (λ fits. Fits fits (reverse stack.new.items) (after_group (reverse stack.old.items))) }
+{
+    let Some(labelled) = take_labelled(stack) else {
+        return Ok(false);
+    };
+    put(stack, Value::Switch(SwitchValue::Group(labelled)))?;
+    Ok(true)
+}
+
+/// No groups.
+pub fn make_no_groups(alloc: Global, stack: &mut Vec<Value>) -> Result<bool, AllocError>
+    ensures { IfOk result (λ fits. Fits fits (reverse stack.new.items) (after_no_groups (reverse stack.old.items))) }
+{
+    put(stack, Value::Switch(SwitchValue::Groups(Items::new(alloc))))?;
+    Ok(true)
+}
+
+/// One more group.
+pub fn make_add_group(stack: &mut Vec<Value>) -> Result<bool, AllocError>
+    ensures { IfOk result (λ fits. Fits fits (reverse stack.new.items) (after_add_group (reverse stack.old.items))) }
+{
+    let group = take_group(stack);
+    let groups = take_groups(stack);
+    let Some((group, mut groups)) = all_two(group, groups) else {
+        return Ok(false);
+    };
+    groups.push(group)?;
+    put(stack, Value::Switch(SwitchValue::Groups(groups)))?;
+    Ok(true)
+}
+
+/// An empty block.
+pub fn make_no_items(alloc: Global, stack: &mut Vec<Value>) -> Result<bool, AllocError>
+    ensures { IfOk result (λ fits. Fits fits (reverse stack.new.items) (after_no_items (reverse stack.old.items))) }
+{
+    put(
+        stack,
+        Value::Statement(StatementValue::Parts(Items::new(alloc))),
+    )?;
+    Ok(true)
+}
+
+/// One more declaration of a block.
+pub fn make_add_local(stack: &mut Vec<Value>) -> Result<bool, AllocError>
+    ensures { IfOk result (λ fits. Fits fits (reverse stack.new.items) (after_add_local (reverse stack.old.items))) }
+{
+    let part = take_local(stack);
+    let parts = take_parts(stack);
+    let Some((part, mut parts)) = all_two(part, parts) else {
+        return Ok(false);
+    };
+    parts.push(BlockItem::Local(part))?;
+    put(stack, Value::Statement(StatementValue::Parts(parts)))?;
+    Ok(true)
+}
+
+/// One more statement of a block.
+pub fn make_add_statement(stack: &mut Vec<Value>) -> Result<bool, AllocError>
+    ensures { IfOk result (λ fits. Fits fits (reverse stack.new.items) (after_add_statement (reverse stack.old.items))) }
+{
+    let part = take_statement(stack);
+    let parts = take_parts(stack);
+    let Some((part, mut parts)) = all_two(part, parts) else {
+        return Ok(false);
+    };
+    parts.push(BlockItem::Statement(part))?;
+    put(stack, Value::Statement(StatementValue::Parts(parts)))?;
+    Ok(true)
+}
+
+/// `Block = "{" { Local | Statement } "}"`
+pub fn make_block(stack: &mut Vec<Value>) -> Result<bool, AllocError>
+    ensures { IfOk result (λ fits. Fits fits (reverse stack.new.items) (after_block (reverse stack.old.items))) }
+{
+    let items = take_parts(stack);
+    let place = take_place(stack);
+    let Some((items, place)) = all_two(items, place) else {
+        return Ok(false);
+    };
+    put(
+        stack,
+        Value::Statement(StatementValue::Block(Block { place, items })),
+    )?;
+    Ok(true)
+}
+
+/// `Statement = Block`
+pub fn make_compound(stack: &mut Vec<Value>) -> Result<bool, AllocError>
+    ensures { IfOk result (λ fits. Fits fits (reverse stack.new.items) (after_compound (reverse stack.old.items))) }
+{
+    let Some(part) = take_block(stack) else {
+        return Ok(false);
+    };
+    put(
+        stack,
+        Value::Statement(StatementValue::Statement(Statement::Compound(part.place, part.items))),
+    )?;
+    Ok(true)
+}
+
+/// `Statement = ";"`
+pub fn make_empty(stack: &mut Vec<Value>) -> Result<bool, AllocError>
+    ensures { IfOk result (λ fits. Fits fits (reverse stack.new.items) (after_empty (reverse stack.old.items))) }
+{
+    let Some(place) = take_place(stack) else {
+        return Ok(false);
+    };
+    put(
+        stack,
+        Value::Statement(StatementValue::Statement(Statement::Empty(place))),
+    )?;
+    Ok(true)
+}
+
+/// `Statement = Simple ";"`
+pub fn make_simple(stack: &mut Vec<Value>) -> Result<bool, AllocError>
+    ensures { IfOk result (λ fits. Fits fits (reverse stack.new.items) (after_simple (reverse stack.old.items))) }
+{
+    let Some(part) = take_simple(stack) else {
+        return Ok(false);
+    };
+    put(
+        stack,
+        Value::Statement(StatementValue::Statement(Statement::Simple(part))),
+    )?;
+    Ok(true)
+}
+
+/// `Statement = "if" "(" Expression ")" Statement`
+pub fn make_if_alone(alloc: Global, stack: &mut Vec<Value>) -> Result<bool, AllocError>
+    ensures { IfOk result (λ fits. Fits fits (reverse stack.new.items) (after_if_alone (reverse stack.old.items))) }
+{
+    let first = take_statement(stack);
+    let condition = take_expression(stack);
+    let place = take_place(stack);
+    let Some((first, condition, place)) = all_three(first, condition, place) else {
+        return Ok(false);
+    };
+    let (first, condition) = boxed_with(alloc, first, condition)?;
+    put(
+        stack,
+        Value::Statement(StatementValue::Statement(Statement::If(place, condition, first))),
+    )?;
+    Ok(true)
+}
+
+/// `Statement = "if" "(" Expression ")" Statement "else" Statement`
+pub fn make_if_else(alloc: Global, stack: &mut Vec<Value>) -> Result<bool, AllocError>
+    ensures { IfOk result (λ fits. Fits fits (reverse stack.new.items) (after_if_else (reverse stack.old.items))) }
+{
+    let second = take_statement(stack);
+    let first = take_statement(stack);
+    let condition = take_expression(stack);
+    let place = take_place(stack);
+    let Some((second, first, condition, place)) = all_four(second, first, condition, place) else {
+        return Ok(false);
+    };
+    let (first, (second, condition)) = boxed_with(alloc, first, (second, condition))?;
+    let (second, (first, condition)) = boxed_with(alloc, second, (first, condition))?;
+    put(
+        stack,
+        Value::Statement(StatementValue::Statement(Statement::IfElse(
+            place, condition, first, second,
+        ))),
+    )?;
+    Ok(true)
+}
+
+/// `Statement = "while" "(" Expression ")" Statement`
+pub fn make_while(alloc: Global, stack: &mut Vec<Value>) -> Result<bool, AllocError>
+    ensures { IfOk result (λ fits. Fits fits (reverse stack.new.items) (after_while (reverse stack.old.items))) }
+{
+    let body = take_statement(stack);
+    let condition = take_expression(stack);
+    let place = take_place(stack);
+    let Some((body, condition, place)) = all_three(body, condition, place) else {
+        return Ok(false);
+    };
+    let (body, condition) = boxed_with(alloc, body, condition)?;
+    put(
+        stack,
+        Value::Statement(StatementValue::Statement(Statement::While(place, condition, body))),
+    )?;
+    Ok(true)
+}
+
+/// `Statement = "do" Statement "while" "(" Expression ")" ";"`
+pub fn make_do(alloc: Global, stack: &mut Vec<Value>) -> Result<bool, AllocError>
+    ensures { IfOk result (λ fits. Fits fits (reverse stack.new.items) (after_do (reverse stack.old.items))) }
+{
+    let condition = take_expression(stack);
+    let body = take_statement(stack);
+    let place = take_place(stack);
+    let Some((condition, body, place)) = all_three(condition, body, place) else {
+        return Ok(false);
+    };
+    let (body, condition) = boxed_with(alloc, body, condition)?;
+    put(
+        stack,
+        Value::Statement(StatementValue::Statement(Statement::Do(place, body, condition))),
+    )?;
+    Ok(true)
+}
+
+/// `Statement = "switch" "(" Expression ")" "{" { Group } "}"`
+pub fn make_switch(stack: &mut Vec<Value>) -> Result<bool, AllocError>
+    ensures { IfOk result (λ fits. Fits fits (reverse stack.new.items) (after_switch (reverse stack.old.items))) }
+{
+    let groups = take_groups(stack);
+    let given = take_expression(stack);
+    let place = take_place(stack);
+    let Some((groups, given, place)) = all_three(groups, given, place) else {
+        return Ok(false);
+    };
+    put(
+        stack,
+        Value::Statement(StatementValue::Statement(Statement::Switch(place, given, groups))),
+    )?;
+    Ok(true)
+}
+
+/// `Statement = "break" ";"`
+pub fn make_break(stack: &mut Vec<Value>) -> Result<bool, AllocError>
+    ensures { IfOk result (λ fits. Fits fits (reverse stack.new.items) (after_break (reverse stack.old.items))) }
+{
+    let Some(place) = take_place(stack) else {
+        return Ok(false);
+    };
+    put(
+        stack,
+        Value::Statement(StatementValue::Statement(Statement::Break(place))),
+    )?;
+    Ok(true)
+}
+
+/// `Statement = "continue" ";"`
+pub fn make_continue(stack: &mut Vec<Value>) -> Result<bool, AllocError>
+    ensures { IfOk result (λ fits. Fits fits (reverse stack.new.items) (after_continue (reverse stack.old.items))) }
+{
+    let Some(place) = take_place(stack) else {
+        return Ok(false);
+    };
+    put(
+        stack,
+        Value::Statement(StatementValue::Statement(Statement::Continue(place))),
+    )?;
+    Ok(true)
+}
+
+/// `Statement = "return" [Init] ";"`
+pub fn make_return(stack: &mut Vec<Value>) -> Result<bool, AllocError>
+    ensures { IfOk result (λ fits. Fits fits (reverse stack.new.items) (after_return (reverse stack.old.items))) }
+{
+    let given = take_initializer_option(stack);
+    let place = take_place(stack);
+    let Some((given, place)) = all_two(given, place) else {
+        return Ok(false);
+    };
+    put(
+        stack,
+        Value::Statement(StatementValue::Statement(Statement::Return(place, given))),
+    )?;
+    Ok(true)
+}
+
+/// `Statement = "assert" "(" Expression ")" ";"`
+pub fn make_assert(stack: &mut Vec<Value>) -> Result<bool, AllocError>
+    ensures { IfOk result (λ fits. Fits fits (reverse stack.new.items) (after_assert (reverse stack.old.items))) }
+{
+    let condition = take_expression(stack);
+    let place = take_place(stack);
+    let Some((condition, place)) = all_two(condition, place) else {
+        return Ok(false);
+    };
+    put(
+        stack,
+        Value::Statement(StatementValue::Statement(Statement::Assert(place, condition))),
+    )?;
+    Ok(true)
+}
+
+/// `Statement = "__CPROVER_assert" "(" Expression "," STRING ")" ";"`
+pub fn make_cprover_assert(stack: &mut Vec<Value>) -> Result<bool, AllocError>
+    ensures { IfOk result (λ fits. Fits fits (reverse stack.new.items) (after_cprover_assert (reverse stack.old.items))) }
+{
+    let condition = take_expression(stack);
+    let place = take_place(stack);
+    let Some((condition, place)) = all_two(condition, place) else {
+        return Ok(false);
+    };
+    put(
+        stack,
+        Value::Statement(StatementValue::Statement(Statement::CproverAssert(place, condition))),
+    )?;
+    Ok(true)
+}
+
+/// `Statement = "__CPROVER_assume" "(" Expression ")" ";"`
+pub fn make_cprover_assume(stack: &mut Vec<Value>) -> Result<bool, AllocError>
+    ensures { IfOk result (λ fits. Fits fits (reverse stack.new.items) (after_cprover_assume (reverse stack.old.items))) }
+{
+    let condition = take_expression(stack);
+    let place = take_place(stack);
+    let Some((condition, place)) = all_two(condition, place) else {
+        return Ok(false);
+    };
+    put(
+        stack,
+        Value::Statement(StatementValue::Statement(Statement::CproverAssume(place, condition))),
+    )?;
+    Ok(true)
+}
