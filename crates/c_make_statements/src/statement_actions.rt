@@ -2,15 +2,16 @@
 
 ghost use Rattle.std.specs.Prelude.{IfOk, reverse};
 ghost use Rattle.c_values.specs.Values.{Fits};
-ghost use Rattle.c_actions.specs.StatementActions.{after_add_group, after_add_label, after_add_local, after_add_statement, after_add_to_group, after_assert, after_assign, after_block, after_break, after_call, after_case, after_compound, after_continue, after_cprover_assert, after_cprover_assume, after_default, after_do, after_empty, after_first_label, after_for_local, after_for_nothing, after_for_simple, after_group, after_if_alone, after_if_else, after_labelled, after_no_groups, after_no_items, after_no_simple, after_return, after_simple, after_some_simple, after_step_after, after_step_before, after_switch, after_update, after_while};
+ghost use Rattle.c_actions.specs.StatementActions.{after_add_group, after_add_label, after_add_local, after_add_statement, after_add_to_group, after_assert, after_assign, after_block, after_break, after_call, after_case, after_compound, after_continue, after_cprover_assert, after_cprover_assume, after_default, after_do, after_empty, after_first_label, after_for, after_for_local, after_for_nothing, after_for_simple, after_group, after_if_alone, after_if_else, after_labelled, after_no_groups, after_no_items, after_no_simple, after_return, after_simple, after_some_simple, after_step_after, after_step_before, after_switch, after_update, after_while};
 
 use c_parts::{all_four, all_three, all_two, boxed_with, label_start};
 use c_tree::{Block, BlockItem, Call, ForFirst, Group, Label, Simple, Statement};
 use c_values::{
     Labels, StatementValue, SwitchValue, Value, put, take_assignment_mark, take_block,
-    take_expression, take_expressions, take_group, take_groups, take_initializer,
-    take_initializer_option, take_label, take_labelled, take_labels, take_local, take_name,
-    take_parts, take_path, take_place, take_simple, take_statement, take_step_mark,
+    take_expression, take_expression_option, take_expressions, take_for_first, take_group,
+    take_groups, take_initializer, take_initializer_option, take_label, take_labelled, take_labels,
+    take_local, take_name, take_parts, take_path, take_place, take_simple, take_simple_option,
+    take_statement, take_step_mark,
 };
 use sqlite_items::Items;
 use std::alloc::{AllocError, Global};
@@ -562,6 +563,30 @@ pub fn make_cprover_assume(stack: &mut Vec<Value>) -> Result<bool, AllocError>
     put(
         stack,
         Value::Statement(StatementValue::Statement(Statement::CproverAssume(place, condition))),
+    )?;
+    Ok(true)
+}
+
+/// `Statement = "for" "(" ForFirst [Expression] ";" [Simple] ")" Statement`
+pub fn make_for(alloc: Global, stack: &mut Vec<Value>) -> Result<bool, AllocError>
+    ensures { IfOk result (λ fits. Fits fits (reverse stack.new.items) (after_for (reverse stack.old.items))) }
+{
+    let body = take_statement(stack);
+    let step = take_simple_option(stack);
+    let condition = take_expression_option(stack);
+    let first = take_for_first(stack);
+    let place = take_place(stack);
+    let head = all_two(first, place);
+    let Some((body, step, condition, head)) = all_four(body, step, condition, head) else {
+        return Ok(false);
+    };
+    let (body, (step, condition, head)) = boxed_with(alloc, body, (step, condition, head))?;
+    let (first, place) = head;
+    put(
+        stack,
+        Value::Statement(StatementValue::Statement(Statement::For(
+            place, first, condition, step, body,
+        ))),
     )?;
     Ok(true)
 }
