@@ -1,0 +1,31 @@
+-- What an activation does of a run, on a machine.
+use Rattle.std.specs.Prelude.{◌≡◌, ℕ, List, Result, IfOk}
+use Rattle.joint_ir.specs.Effects.{Onward}
+use Rattle.joint_ir.specs.Steps.{Setting, Calls}
+use Rattle.joint_ir.specs.Statements.{calls_at}
+use Rattle.joint_view.specs.declared.halt.Halt.{Halt}
+use Rattle.joint_machine.specs.declared.machine.Machine.{Machine}
+use Rattle.joint_machine.specs.declared.machine.Way.{Way}
+use Rattle.joint_machine.specs.Moments.{Does, Passes, Finds, IsKept, IsReady}
+use Rattle.joint_step.specs.declared.parts.Activation.{Activation}
+
+abbrev pub setting_of : Activation → Setting
+setting_of a = record { pair = a.pair.now; bounds = a.bounds.now; here = a.here }
+
+-- what calls do in an activation, where these functions have activations that stand
+abbrev pub calls_in : Activation → (standing : List ℕ) → Calls
+calls_in a standing = calls_at a.pair.now a.bounds.now a.left standing
+
+-- a machine did what a stretch with calls does
+abbrev pub DoesIn : Activation → Result Way Halt → (old new : Machine) → (Calls → Onward) → Type 0
+DoesIn a result old new f = (standing : List ℕ) → old.standing.items ≡ standing → Does result old new (f (calls_in a standing))
+
+abbrev pub PassesIn : Activation → {A : Type 0} → Result A Halt → (old new : Machine) → (Calls → Onward) → Type 0
+PassesIn a result old new f = (standing : List ℕ) → old.standing.items ≡ standing → Passes result old new (f (calls_in a standing))
+
+abbrev pub FindsIn : Activation → {A : Type 0} → Result A Halt → (old new : Machine) → (Calls → (A → Onward) → Onward) → Type 0
+FindsIn a result old new f = (standing : List ℕ) → old.standing.items ≡ standing → Finds result old new (f (calls_in a standing))
+
+-- what stays the same of a machine that goes on, and what holds of it
+abbrev pub GoesOn : Activation → {A : Type 0} → Result A Halt → (old new : Machine) → Type 0
+GoesOn a result old new = IfOk result (λ _. IsKept old new × IsReady a.pair.now new)
