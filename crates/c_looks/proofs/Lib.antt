@@ -1,0 +1,15 @@
+pub mod Equations
+pub mod Maps
+pub mod Looks
+pub mod Values
+pub mod Trees
+pub mod Woven
+pub mod TokenLooks
+pub mod ExpressionLooks
+pub mod DeclarationLooks
+pub mod StatementLooks
+pub mod FileLooks
+pub mod Turns
+pub mod Told
+pub mod Laws
+pub mod Sizes
