@@ -1,4 +1,3 @@
-pub mod Values
 pub mod Tokens
 pub mod Expr
 pub mod Stmt

@@ -8,15 +8,10 @@
 ghost use Rattle.v_actions.specs.Laws.{TreeLaw};
 
 pub mod actions;
-mod values;
 
 pub use actions::{
     Action, ConnectAction, DeclareAction, ExprAction, ModuleAction, StmtAction, TokenAction,
     action_of,
-};
-pub use values::{
-    ConnectValue, DeclareValue, ExprValue, ModuleValue, NamesValue, PartValue, StmtValue,
-    TokenValue, Value,
 };
 
 /// The actions of each derivation build a tree, and a text has no other. It does nothing: its contract is a law.

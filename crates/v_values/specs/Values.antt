@@ -1,15 +1,15 @@
 -- The stack, from the top down. Each `with_..` takes a value of its sort off, and goes on with it.
-use Rattle.std.specs.Prelude.{Bool, List, ◌∷◌, Option, None}
+use Rattle.std.specs.Prelude.{◌≡◌, Bool, true, false, List, ◌∷◌, Option, Some, None}
 use Rattle.src_text.specs.declared.refusal.Place.{Place}
-use Rattle.v_actions.specs.declared.values.Value.{Value}
-use Rattle.v_actions.specs.declared.values.TokenValue.TheVariants as TokenValue
-use Rattle.v_actions.specs.declared.values.ExprValue.TheVariants as ExprValue
-use Rattle.v_actions.specs.declared.values.StmtValue.TheVariants as StmtValue
-use Rattle.v_actions.specs.declared.values.DeclareValue.TheVariants as DeclareValue
-use Rattle.v_actions.specs.declared.values.NamesValue.TheVariants as NamesValue
-use Rattle.v_actions.specs.declared.values.ConnectValue.TheVariants as ConnectValue
-use Rattle.v_actions.specs.declared.values.PartValue.TheVariants as PartValue
-use Rattle.v_actions.specs.declared.values.ModuleValue.TheVariants as ModuleValue
+use Rattle.v_values.specs.declared.values.Value.{Value}
+use Rattle.v_values.specs.declared.values.TokenValue.TheVariants as TokenValue
+use Rattle.v_values.specs.declared.values.ExprValue.TheVariants as ExprValue
+use Rattle.v_values.specs.declared.values.StmtValue.TheVariants as StmtValue
+use Rattle.v_values.specs.declared.values.DeclareValue.TheVariants as DeclareValue
+use Rattle.v_values.specs.declared.values.NamesValue.TheVariants as NamesValue
+use Rattle.v_values.specs.declared.values.ConnectValue.TheVariants as ConnectValue
+use Rattle.v_values.specs.declared.values.PartValue.TheVariants as PartValue
+use Rattle.v_values.specs.declared.values.ModuleValue.TheVariants as ModuleValue
 use Rattle.v_tree.specs.declared.stmt.AssignmentKind.{AssignmentKind}
 use Rattle.v_tree.specs.declared.expr.BasedNumber.{BasedNumber}
 use Rattle.v_tree.specs.declared.expr.BinaryOperator.{BinaryOperator}
@@ -38,6 +38,7 @@ use Rattle.v_tree.specs.declared.expr.Selection.{Selection}
 use Rattle.v_tree.specs.declared.stmt.Stmt.{Stmt}
 use Rattle.v_tree.specs.declared.stmt.Target.{Target}
 use Rattle.v_tree.specs.declared.expr.UnaryOperator.{UnaryOperator}
+use Rattle.v_tree.specs.declared.item.VTree.{VTree}
 
 abbrev pub Values : Type 0
 Values = List Value
@@ -249,3 +250,12 @@ with_module st go = None
 abbrev pub with_modules : Values → Goes (List Module) → Option Values
 with_modules (Value.Module (ModuleValue.Modules x) ∷ st) go = go x st
 with_modules st go = None
+
+abbrev pub with_source : Values → Goes VTree → Option Values
+with_source (Value.Module (ModuleValue.Source x) ∷ st) go = go x st
+with_source st go = None
+
+-- What a call left on the stack, where an action leaves `after`: that, or it didn't find its values.
+abbrev pub Fits : Bool → Values → Option Values → Type 0
+Fits true new after = after ≡ Some new
+Fits false new after = after ≡ None
