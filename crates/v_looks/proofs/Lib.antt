@@ -1,0 +1,14 @@
+pub mod Maps
+pub mod Looks
+pub mod Values
+pub mod Trees
+pub mod Woven
+pub mod ExprLooks
+pub mod StmtLooks
+pub mod DeclareLooks
+pub mod ConnectLooks
+pub mod ModuleLooks
+pub mod Turns
+pub mod Told
+pub mod Laws
+pub mod Sizes

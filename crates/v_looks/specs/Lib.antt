@@ -1,0 +1,4 @@
+pub mod Depth
+pub mod Spare
+pub mod After
+pub mod Laws
