@@ -1,0 +1,16 @@
+use Rattle.std.proofs.Common.{◌∷◌, Some, reverse, sym, ◌∙◌}
+use Rattle.takings.proofs.Takings.{two_found, two_lost}
+use Rattle.v_values.specs.Values.{with_expr, with_name}
+use Rattle.v_values.specs.declared.values.NamesValue.TheVariants as NamesValue
+use Rattle.v_tree.specs.declared.item.RegisterForm.TheVariants as RegisterForm
+use Rattle.v_values.specs.declared.values.Value.TheVariants as Value
+use Rattle.v_make_declarations.proofs.declaration_actions.make_initialized_register.Goals as goal
+
+pub returns : goal.returns
+returns c =
+    let e = two_found c.take_expr-value.result c.take_name-name.result (with_expr (reverse c.args.stack.now.items)) with_name (reverse c.take_expr-value.new.stack.items) (reverse c.take_name-name.new.stack.items) c.take_expr-value.ensures c.take_name-name.ensures (λ value name rest. Some (Value.Names (NamesValue.Register (record { name = name; form = RegisterForm.Initialized value })) ∷ rest)) (c.in-Some.value, c.in-Some.name) (sym c.all_two.ensures ∙ c.in-Some.is) in
+    let p = c.in_ok-put.ensures in
+    cc
+
+pub returns-in_default : goal.returns-in_default
+returns-in_default c = two_lost c.take_expr-value.result c.take_name-name.result (with_expr (reverse c.args.stack.now.items)) with_name (reverse c.take_expr-value.new.stack.items) (reverse c.take_name-name.new.stack.items) c.take_expr-value.ensures c.take_name-name.ensures (λ value name rest. Some (Value.Names (NamesValue.Register (record { name = name; form = RegisterForm.Initialized value })) ∷ rest)) (sym c.all_two.ensures ∙ c.in_default.is)

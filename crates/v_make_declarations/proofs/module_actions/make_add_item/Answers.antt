@@ -1,0 +1,9 @@
+use Rattle.std.proofs.Common.{[], ◌∷◌, ◌++◌, Some, reverse, sym, ◌∙◌}
+use Rattle.takings.proofs.Takings.{two_lost}
+use Rattle.v_values.specs.Values.{with_item, with_items}
+use Rattle.v_values.specs.declared.values.ModuleValue.TheVariants as ModuleValue
+use Rattle.v_values.specs.declared.values.Value.TheVariants as Value
+use Rattle.v_make_declarations.proofs.module_actions.make_add_item.Goals as goal
+
+pub returns-in_default : goal.returns-in_default
+returns-in_default c = two_lost c.take_item-item.result c.take_items-items.result (with_item (reverse c.args.stack.now.items)) with_items (reverse c.take_item-item.new.stack.items) (reverse c.take_items-items.new.stack.items) c.take_item-item.ensures c.take_items-items.ensures (λ item items rest. Some (Value.Module (ModuleValue.Items (items ++ item ∷ [])) ∷ rest)) (sym c.all_two.ensures ∙ c.in_default.is)

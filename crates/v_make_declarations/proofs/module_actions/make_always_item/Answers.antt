@@ -1,0 +1,16 @@
+use Rattle.std.proofs.Common.{◌∷◌, Some, reverse, sym, ◌∙◌}
+use Rattle.takings.proofs.Takings.{three_found, three_lost}
+use Rattle.v_values.specs.Values.{with_event, with_place, with_stmt}
+use Rattle.v_tree.specs.declared.item.Item.TheVariants as Item
+use Rattle.v_values.specs.declared.values.ModuleValue.TheVariants as ModuleValue
+use Rattle.v_values.specs.declared.values.Value.TheVariants as Value
+use Rattle.v_make_declarations.proofs.module_actions.make_always_item.Goals as goal
+
+pub returns : goal.returns
+returns c =
+    let e = three_found c.take_stmt-body.result c.take_event-event.result c.take_place-place.result (with_stmt (reverse c.args.stack.now.items)) with_event with_place (reverse c.take_stmt-body.new.stack.items) (reverse c.take_event-event.new.stack.items) (reverse c.take_place-place.new.stack.items) c.take_stmt-body.ensures c.take_event-event.ensures c.take_place-place.ensures (λ body event place rest. Some (Value.Module (ModuleValue.Item (Item.Always (record { place = place; event = event; body = body }))) ∷ rest)) (c.in-Some.body, c.in-Some.event, c.in-Some.place) (sym c.all_three.ensures ∙ c.in-Some.is) in
+    let p = c.in_ok-put.ensures in
+    cc
+
+pub returns-in_default : goal.returns-in_default
+returns-in_default c = three_lost c.take_stmt-body.result c.take_event-event.result c.take_place-place.result (with_stmt (reverse c.args.stack.now.items)) with_event with_place (reverse c.take_stmt-body.new.stack.items) (reverse c.take_event-event.new.stack.items) (reverse c.take_place-place.new.stack.items) c.take_stmt-body.ensures c.take_event-event.ensures c.take_place-place.ensures (λ body event place rest. Some (Value.Module (ModuleValue.Item (Item.Always (record { place = place; event = event; body = body }))) ∷ rest)) (sym c.all_three.ensures ∙ c.in_default.is)

@@ -1,0 +1,17 @@
+use Rattle.std.proofs.Common.{◌≡◌, [], ◌∷◌, ◌++◌, Some, None, true, false, reverse, sym, ap, ◌∙◌}
+use Rattle.takings.proofs.Takings.{two_found, two_lost}
+use Rattle.v_values.specs.Values.{with_expr, with_place}
+use Rattle.v_tree.specs.declared.expr.Expr.TheVariants as Expr
+use Rattle.v_values.specs.declared.values.ExprValue.TheVariants as ExprValue
+use Rattle.v_values.specs.declared.values.Value.TheVariants as Value
+use Rattle.v_make_expressions.proofs.expression_actions.make_signed_call.Goals as goal
+
+pub returns : goal.returns
+returns c =
+    let e = two_found c.take_expr-operand.result c.take_place-place.result (with_expr (reverse c.args.stack.now.items)) with_place (reverse c.take_expr-operand.new.stack.items) (reverse c.take_place-place.new.stack.items) c.take_expr-operand.ensures c.take_place-place.ensures (λ operand place rest. Some (Value.Expr (ExprValue.Expr (Expr.Signed place operand)) ∷ rest)) (c.in-Some.operand, c.in-Some.place) (sym c.all_two.ensures ∙ c.in-Some.is) in
+    let b0 = c.in_ok-operand.ensures in
+    let p = c.in_ok-put.ensures in
+    cc
+
+pub returns-in_default : goal.returns-in_default
+returns-in_default c = two_lost c.take_expr-operand.result c.take_place-place.result (with_expr (reverse c.args.stack.now.items)) with_place (reverse c.take_expr-operand.new.stack.items) (reverse c.take_place-place.new.stack.items) c.take_expr-operand.ensures c.take_place-place.ensures (λ operand place rest. Some (Value.Expr (ExprValue.Expr (Expr.Signed place operand)) ∷ rest)) (sym c.all_two.ensures ∙ c.in_default.is)

@@ -1,0 +1,16 @@
+use Rattle.std.proofs.Common.{◌∷◌, Some, reverse, sym, ◌∙◌}
+use Rattle.takings.proofs.Takings.{two_found, two_lost}
+use Rattle.v_values.specs.Values.{with_place, with_targets}
+use Rattle.v_values.specs.declared.values.StmtValue.TheVariants as StmtValue
+use Rattle.v_tree.specs.declared.stmt.Target.TheVariants as Target
+use Rattle.v_values.specs.declared.values.Value.TheVariants as Value
+use Rattle.v_make_statements.proofs.statement_actions.make_target_concatenation.Goals as goal
+
+pub returns : goal.returns
+returns c =
+    let e = two_found c.take_targets-parts.result c.take_place-place.result (with_targets (reverse c.args.stack.now.items)) with_place (reverse c.take_targets-parts.new.stack.items) (reverse c.take_place-place.new.stack.items) c.take_targets-parts.ensures c.take_place-place.ensures (λ parts place rest. Some (Value.Stmt (StmtValue.Target (Target.Concatenation place parts)) ∷ rest)) (c.in-Some.parts, c.in-Some.place) (sym c.all_two.ensures ∙ c.in-Some.is) in
+    let p = c.in_ok-put.ensures in
+    cc
+
+pub returns-in_default : goal.returns-in_default
+returns-in_default c = two_lost c.take_targets-parts.result c.take_place-place.result (with_targets (reverse c.args.stack.now.items)) with_place (reverse c.take_targets-parts.new.stack.items) (reverse c.take_place-place.new.stack.items) c.take_targets-parts.ensures c.take_place-place.ensures (λ parts place rest. Some (Value.Stmt (StmtValue.Target (Target.Concatenation place parts)) ∷ rest)) (sym c.all_two.ensures ∙ c.in_default.is)
