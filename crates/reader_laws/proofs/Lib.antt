@@ -1,0 +1,7 @@
+mod InOrder
+mod Productions
+mod Spellings
+mod VerilogReading
+mod VerilogTrees
+mod CReading
+mod CTrees
