@@ -5,6 +5,7 @@ use Rattle.io_edge.specs.Faults.{Rose}
 use Rattle.io_edge.specs.declared.reading.ReadEnd.{ReadEnd}
 use Rattle.io_edge.specs.declared.reading.ReadEnd.TheVariants as ends
 use Rattle.src_text.specs.declared.refusal.Lang.TheVariants.{C, V}
+use Rattle.src_text.specs.declared.refusal.Refusal.{Refusal}
 use Rattle.hwcbmc_core.specs.declared.options.Options.{Options}
 use Rattle.hwcbmc_core.specs.declared.answer.Answer.{Answer}
 use Rattle.hwcbmc_core.specs.declared.answer.Answer.TheVariants.{Usage, ReadFault, Refused, Failed, Successful, Memory}
@@ -12,8 +13,9 @@ use Rattle.hwcbmc_core.specs.declared.sources.Program.{Program}
 use Rattle.hwcbmc_core.specs.declared.sources.Counter.{Counter}
 use Rattle.hwcbmc_core.specs.Sources.{IsProgram, IsCounter}
 use Rattle.hwcbmc_core.proofs.SourceLemmas.{same_program, same_counter}
-use Rattle.hwcbmc_core.specs.Answers.{Reading, FitsLength, AreRead, c_too_long, v_too_long, c_unsupported, v_unsupported, unread, HoldsOf, Judges, IsTraceOfBreak, IsJudged, IsRightFor}
+use Rattle.hwcbmc_core.specs.Answers.{Reading, FitsLength, AreRead, RefusesTexts, c_refused, v_refused, c_unsupported, v_unsupported, c_too_long, v_too_long, of_texts, unread, HoldsOf, Judges, IsTraceOfBreak, IsJudged, IsRightFor}
 use Rattle.hwcbmc_core.specs.Runs.{Property, CanBreak}
+use Rattle.hwcbmc_core.specs.Trees.{HasTreeIn, IsRefused}
 
 -- what a reading that failed leaves
 pub record LeavesUnread (name : List ℕ) (told : Option (List ℕ)) (before after : Reading) (end : ReadEnd) : Type 0 where
@@ -72,8 +74,10 @@ judges_told options told c_text v_text Holds c_whole v_whole judged =
 
 -- what holds of the pair that was read holds of each pair that the texts are
 pub holds_of : (c_text v_text : List ℕ) (program : Program) (counter : Counter) (Holds : Program → Counter → Type 0)
-    → IsProgram c_text program → IsCounter v_text counter → Holds program counter → HoldsOf c_text v_text Holds
-holds_of c_text v_text program counter Holds is_program is_counter holds = (
+    → HasTreeIn C c_text → HasTreeIn V v_text → IsProgram c_text program → IsCounter v_text counter → Holds program counter → HoldsOf c_text v_text Holds
+holds_of c_text v_text program counter Holds c_read v_read is_program is_counter holds = (
+  c_read,
+  v_read,
   (program, is_program),
   (counter, is_counter),
   λ other_program other_counter other_is other_is_counter.
@@ -82,19 +86,30 @@ holds_of c_text v_text program counter Holds is_program is_counter holds = (
       subst P (same_program c_text program other_program is_program other_is) (subst Q (same_counter v_text counter other_counter is_counter other_is_counter) holds),
 )
 
+-- what refuses the texts that were read refuses the texts that are told
+refuses_told : (options : Options) (c_told v_told : Option (List ℕ)) (c_text v_text file : List ℕ) (refusal : Refusal)
+    → IfSome c_told (λ bytes. c_text ≡ bytes) → IfSome v_told (λ bytes. v_text ≡ bytes)
+    → RefusesTexts options (Some c_text) (Some v_text) file refusal → RefusesTexts options c_told v_told file refusal
+refuses_told options c_told v_told c_text v_text file refusal c_whole v_whole (c_refused r refused) =
+    c_refused r (told_of (λ text. IsRefused C text r) c_told c_text c_whole refused)
+refuses_told options c_told v_told c_text v_text file refusal c_whole v_whole (v_refused r read refused) =
+    v_refused r (told_of (HasTreeIn C) c_told c_text c_whole read) (told_of (λ text. IsRefused V text r) v_told v_text v_whole refused)
+refuses_told options c_told v_told c_text v_text file refusal c_whole v_whole (c_unsupported c_read v_read none) =
+    c_unsupported (told_of (HasTreeIn C) c_told c_text c_whole c_read) (told_of (HasTreeIn V) v_told v_text v_whole v_read)
+    (told_of (λ text. (program : Program) → ¬ (IsProgram text program)) c_told c_text c_whole none)
+refuses_told options c_told v_told c_text v_text file refusal c_whole v_whole (v_unsupported c_read v_read is none) =
+    v_unsupported (told_of (HasTreeIn C) c_told c_text c_whole c_read) (told_of (HasTreeIn V) v_told v_text v_whole v_read)
+    (told_of (λ text. (program : Program) × IsProgram text program) c_told c_text c_whole is)
+    (told_of (λ text. (counter : Counter) → ¬ (IsCounter text counter)) v_told v_text v_whole none)
+
 -- what is right for the texts is right for the files
 pub judged_right : (options : Options) (told : List ℕ → Option (List ℕ)) (before after : Reading) (c_text v_text : List ℕ) (answer : Answer)
     → AreRead options told before after → IfSome (told options.c_file) (λ bytes. c_text ≡ bytes) → IfSome (told options.v_file) (λ bytes. v_text ≡ bytes)
     → IsJudged options c_text v_text answer → IsRightFor options told before after answer
 judged_right options told before after c_text v_text Usage read c_whole v_whole judged = judged
 judged_right options told before after c_text v_text (ReadFault file) read c_whole v_whole judged = absurd judged
-judged_right options told before after c_text v_text (Refused file refusal) read c_whole v_whole judged = elim judged [
-  | inl c_refused ↦ rw (c_refused.0, c_refused.1)
-      (c_unsupported read (told_of (λ text. (program : Program) → ¬ (IsProgram text program)) (told options.c_file) c_text c_whole c_refused.2))
-  | inr v_refused ↦ rw (v_refused.0, v_refused.1)
-      (v_unsupported read (told_of (λ text. (program : Program) × IsProgram text program) (told options.c_file) c_text c_whole v_refused.2)
-      (told_of (λ text. (counter : Counter) → ¬ (IsCounter text counter)) (told options.v_file) v_text v_whole v_refused.3))
-]
+judged_right options told before after c_text v_text (Refused file refusal) read c_whole v_whole judged =
+    of_texts file refusal read (refuses_told options (told options.c_file) (told options.v_file) c_text v_text file refusal c_whole v_whole judged)
 judged_right options told before after c_text v_text (Failed trace) read c_whole v_whole judged =
     (read, judges_told options told c_text v_text (λ program counter. IsTraceOfBreak program counter options (string_bytes trace)) c_whole v_whole judged)
 judged_right options told before after c_text v_text Successful read c_whole v_whole judged =

@@ -9,8 +9,8 @@ use Rattle.hwcbmc_core.specs.declared.answer.Answer.{Answer}
 use Rattle.hwcbmc_core.specs.declared.answer.Answer.TheVariants.{Usage, ReadFault, Refused, Failed, Successful, Memory}
 use Rattle.hwcbmc_core.specs.Words.{options_of}
 use Rattle.hwcbmc_core.specs.Runs.{Property, CanBreak}
-use Rattle.hwcbmc_core.specs.Answers.{Reading, NoFault, IsFirstRefusal, c_too_long, v_too_long, c_unsupported, v_unsupported, Judges, IsTraceOfBreak, IsRight}
-use Rattle.hwcbmc_core.specs.Delivery.{Stream, IsDelivered, IsSentAs}
+use Rattle.hwcbmc_core.specs.Answers.{Reading, NoFault, IsFirstRefusal, c_too_long, v_too_long, of_texts, Judges, IsTraceOfBreak, IsRight}
+use Rattle.hwcbmc_core.specs.Delivery.{Stream, IsDelivered, IsSentAs, message_of}
 
 -- A status other than the answer's own and 8 isn't given.
 not_given : (text : List ℕ) (own given other : ℕ) (old new : Stream) → IsSentAs text own given old new → given ≡ other → other ≢ own → other ≢ 8 → ⊥
@@ -56,6 +56,21 @@ failure_cause words told before after (Failed trace) given out out_after err err
 failure_cause words told before after Successful given out out_after err err_after right sent is = absurd (not_given _ 0 given 10 out out_after sent.0 is (λ h. omega arith) (λ h. omega arith))
 failure_cause words told before after Memory given out out_after err err_after right sent is = absurd (not_given _ 9 given 10 err err_after sent.0 is (λ h. omega arith) (λ h. omega arith))
 
+-- 6 comes only behind the text of a first refusal.
+pub refusal_cause : (words : List (List ℕ)) (told : List ℕ → Option (List ℕ)) (before after : Reading) (answer : Answer) (given : ℕ) (out out_after err err_after : Stream)
+    → IsRight words told before after answer → IsDelivered answer given out out_after err err_after → given ≡ 6
+    → (options : Options) × (file : List ℕ) × (refusal : Refusal) × (options_of words ≡ Some options)
+    × IsFirstRefusal options told before after file refusal × Appends err.written err_after.written (message_of (Refused file refusal))
+refusal_cause words told before after Usage given out out_after err err_after right sent is = absurd (not_given _ 64 given 6 err err_after sent.0 is (λ h. omega arith) (λ h. omega arith))
+refusal_cause words told before after (ReadFault file) given out out_after err err_after right sent is = absurd (not_given _ 7 given 6 err err_after sent.0 is (λ h. omega arith) (λ h. omega arith))
+refusal_cause words told before after (Refused file refusal) given out out_after err err_after right sent is = elim sent.0 [
+  | inl all ↦ (right.0, file, refusal, right.1, right.2, all.1.written)
+  | inr part ↦ absurd (omega (arith, part.0))
+]
+refusal_cause words told before after (Failed trace) given out out_after err err_after right sent is = absurd (not_given _ 10 given 6 out out_after sent.0 is (λ h. omega arith) (λ h. omega arith))
+refusal_cause words told before after Successful given out out_after err err_after right sent is = absurd (not_given _ 0 given 6 out out_after sent.0 is (λ h. omega arith) (λ h. omega arith))
+refusal_cause words told before after Memory given out out_after err err_after right sent is = absurd (not_given _ 9 given 6 err err_after sent.0 is (λ h. omega arith) (λ h. omega arith))
+
 cut_rose : (text : List ℕ) (own given : ℕ) (old new : Stream) → IsSentAs text own given old new → given ≡ 8 → own ≢ 8 → Rose old.faults new.faults
 cut_rose text own given old new sent is apart = elim sent [
   | inl all ↦ absurd (apart (cc (all.0)))
@@ -92,8 +107,7 @@ refused_no_fault : (options : Options) (told : List ℕ → Option (List ℕ)) (
     → IsFirstRefusal options told before after file refusal → NoFault before after
 refused_no_fault options told before after file refusal (c_too_long long) = long.no_fault
 refused_no_fault options told before after file refusal (v_too_long fits long) = long.no_fault
-refused_no_fault options told before after file refusal (c_unsupported read none) = read.no_fault
-refused_no_fault options told before after file refusal (v_unsupported read some none) = read.no_fault
+refused_no_fault options told before after file refusal (of_texts f r read refused) = read.no_fault
 
 not_own : (text : List ℕ) (own given : ℕ) (old new : Stream) → IsSentAs text own given old new → given ≢ own → given ≢ 8 → ⊥
 not_own text own given old new sent apart whole = elim sent [ inl all ↦ apart all.0 | inr part ↦ whole part.0 ]

@@ -16,6 +16,7 @@ use Rattle.hwcbmc_core.specs.declared.answer.Answer.{Answer}
 use Rattle.hwcbmc_core.specs.declared.answer.Answer.TheVariants.{Usage, ReadFault, Refused, Failed, Successful, Memory}
 use Rattle.hwcbmc_core.specs.Words.{options_of}
 use Rattle.hwcbmc_core.specs.Sources.{IsProgram, IsCounter}
+use Rattle.hwcbmc_core.specs.Trees.{HasTreeIn, IsRefused}
 use Rattle.hwcbmc_core.specs.Runs.{Property, Broken, run_of, CanBreak}
 use Rattle.hwcbmc_core.specs.Trace.{trace_text}
 
@@ -61,24 +62,36 @@ pub record AreRead (options : Options) (told : List ℕ → Option (List ℕ)) (
   pub c_fits : FitsLength (told options.c_file)
   pub v_fits : FitsLength (told options.v_file)
 
--- The first refusal of a file, in order: too long, C first; then not of its written form, C first.
+-- The first refusal of two texts, as far as they are told, in order: one that has no tree, C first; then one that isn't of
+-- its written form, C first.
+pub data RefusesTexts (options : Options) (c_told v_told : Option (List ℕ)) : List ℕ → Refusal → Type 0 where
+  c_refused : (refusal : Refusal) → IfSome c_told (λ text. IsRefused C text refusal)
+      → RefusesTexts options c_told v_told options.c_file refusal
+  v_refused : (refusal : Refusal) → IfSome c_told (HasTreeIn C) → IfSome v_told (λ text. IsRefused V text refusal)
+      → RefusesTexts options c_told v_told options.v_file refusal
+  c_unsupported : IfSome c_told (HasTreeIn C) → IfSome v_told (HasTreeIn V)
+      → IfSome c_told (λ text. (program : Program) → ¬ (IsProgram text program))
+      → RefusesTexts options c_told v_told options.c_file (at_beginning C Unsupported)
+  v_unsupported : IfSome c_told (HasTreeIn C) → IfSome v_told (HasTreeIn V)
+      → IfSome c_told (λ text. (program : Program) × IsProgram text program)
+      → IfSome v_told (λ text. (counter : Counter) → ¬ (IsCounter text counter))
+      → RefusesTexts options c_told v_told options.v_file (at_beginning V Unsupported)
+
+-- The first refusal of a file, in order: too long, C first; then that of the texts.
 pub data IsFirstRefusal (options : Options) (told : List ℕ → Option (List ℕ)) (before after : Reading) : List ℕ → Refusal → Type 0 where
   c_too_long : IsTooLong options.c_file (told options.c_file) before after
       → IsFirstRefusal options told before after options.c_file (at_beginning C TooLong)
   v_too_long : FitsLength (told options.c_file) → IsTooLong options.v_file (told options.v_file) before after
       → IsFirstRefusal options told before after options.v_file (at_beginning V TooLong)
-  c_unsupported : AreRead options told before after
-      → IfSome (told options.c_file) (λ text. (program : Program) → ¬ (IsProgram text program))
-      → IsFirstRefusal options told before after options.c_file (at_beginning C Unsupported)
-  v_unsupported : AreRead options told before after
-      → IfSome (told options.c_file) (λ text. (program : Program) × IsProgram text program)
-      → IfSome (told options.v_file) (λ text. (counter : Counter) → ¬ (IsCounter text counter))
-      → IsFirstRefusal options told before after options.v_file (at_beginning V Unsupported)
+  of_texts : (file : List ℕ) (refusal : Refusal) → AreRead options told before after
+      → RefusesTexts options (told options.c_file) (told options.v_file) file refusal
+      → IsFirstRefusal options told before after file refusal
 
--- Both texts are of their written forms, and what is said holds of the pair that they are.
+-- Both texts have trees and are of their written forms, and what is said holds of the pair that they are.
 abbrev pub HoldsOf : List ℕ → List ℕ → (Program → Counter → Type 0) → Type 0
 HoldsOf c_text v_text Holds =
-    ((program : Program) × IsProgram c_text program) × ((counter : Counter) × IsCounter v_text counter)
+    HasTreeIn C c_text × HasTreeIn V v_text
+    × ((program : Program) × IsProgram c_text program) × ((counter : Counter) × IsCounter v_text counter)
     × ((program : Program) (counter : Counter) → IsProgram c_text program → IsCounter v_text counter → Holds program counter)
 
 -- The same of the two files, where their bytes are told.
@@ -103,10 +116,7 @@ unread file lang ends.Memory = Memory
 abbrev pub IsJudged : Options → List ℕ → List ℕ → Answer → Type 0
 IsJudged options c_text v_text Usage = ⊥
 IsJudged options c_text v_text (ReadFault file) = ⊥
-IsJudged options c_text v_text (Refused file refusal) =
-    ((file ≡ options.c_file) × (refusal ≡ at_beginning C Unsupported) × ((program : Program) → ¬ (IsProgram c_text program)))
-    ⊎ ((file ≡ options.v_file) × (refusal ≡ at_beginning V Unsupported) × ((program : Program) × IsProgram c_text program)
-    × ((counter : Counter) → ¬ (IsCounter v_text counter)))
+IsJudged options c_text v_text (Refused file refusal) = RefusesTexts options (Some c_text) (Some v_text) file refusal
 IsJudged options c_text v_text (Failed trace) =
     HoldsOf c_text v_text (λ program counter. IsTraceOfBreak program counter options (string_bytes trace))
 IsJudged options c_text v_text Successful =

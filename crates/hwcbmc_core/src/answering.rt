@@ -1,11 +1,14 @@
 //! The answer of the command, from its words and its files.
 
 ghost use Rattle.std.specs.Prelude.{◌≡◌, ◌≤◌, length, map, string_bytes};
+ghost use Rattle.src_text.specs.declared.refusal.Lang.TheVariants.{C, V};
 ghost use Rattle.hwcbmc_core.specs.Answers.{IsRight, IsRightFor, IsJudged};
+ghost use Rattle.hwcbmc_core.specs.Trees.{HasTreeIn};
 
 use crate::answer::Answer;
 use crate::judging::breaks;
 use crate::options::{Options, UsageEnd};
+use crate::reading::{TreesEnd, read_texts};
 use crate::sources::{read_c, read_v};
 use crate::tracing::trace;
 use crate::words::options;
@@ -47,8 +50,25 @@ fn read_files<F: Files>(alloc: Global, options: Options, files: &mut F) -> Answe
     judge(alloc, options, &c_text, &v_text)
 }
 
+/// The trees of the texts, and then the verdict on the pair.
 fn judge(alloc: Global, options: Options, c_text: &[u8], v_text: &[u8]) -> Answer
-    requires { length c_text.now ≤ 1048576 }
+    requires c_fits { length c_text.now ≤ 1048576 }
+    requires v_fits { length v_text.now ≤ 1048576 }
+    ensures { IsJudged options c_text.now v_text.now result }
+{
+    match read_texts(alloc, c_text, v_text) {
+        Ok(_trees) => verdict(alloc, options, c_text, v_text),
+        Err(TreesEnd::CRefused(refusal)) => Answer::Refused(options.c_file, refusal),
+        Err(TreesEnd::VRefused(refusal)) => Answer::Refused(options.v_file, refusal),
+        Err(TreesEnd::Memory) => Answer::Memory,
+    }
+}
+
+/// The verdict on texts that have trees, which must be of the written forms.
+fn verdict(alloc: Global, options: Options, c_text: &[u8], v_text: &[u8]) -> Answer
+    requires c_fits { length c_text.now ≤ 1048576 }
+    requires c_read { HasTreeIn C c_text.now }
+    requires v_read { HasTreeIn V v_text.now }
     ensures { IsJudged options c_text.now v_text.now result }
 {
     let Some(program) = read_c(c_text) else {

@@ -7,8 +7,8 @@ ghost use Rattle.std.specs.Prelude.{◌≡◌, ◌≢◌, ◌⊎◌, ℕ, List, 
 ghost use Rattle.io_edge.specs.Faults.{Rose};
 ghost use Rattle.io_edge.specs.Sink.{Appends};
 ghost use Rattle.hwcbmc_core.specs.declared.answer.Answer.{Answer};
-ghost use Rattle.hwcbmc_core.specs.Answers.{IsRight, IsTraceOfBreak, Judges};
-ghost use Rattle.hwcbmc_core.specs.Delivery.{IsDelivered};
+ghost use Rattle.hwcbmc_core.specs.Answers.{IsRight, IsFirstRefusal, IsTraceOfBreak, Judges};
+ghost use Rattle.hwcbmc_core.specs.Delivery.{IsDelivered, message_of};
 ghost use Rattle.hwcbmc_core.specs.Runs.{CanBreak};
 ghost use Rattle.hwcbmc_core.specs.Words.{options_of};
 
@@ -16,7 +16,10 @@ ghost use Rattle.hwcbmc_core.specs.Words.{options_of};
 mod options;
 mod words;
 
-// Bytes to a pair of sources. After this a pair is of the written forms.
+// Texts to trees. After this both texts are of their grammars, and no tree is too deep.
+mod reading;
+
+// Texts to a pair of sources. After this a pair is of the written forms.
 mod sources;
 
 // A pair and its bounds to a verdict.
@@ -61,6 +64,12 @@ pub fn run<F: Files, O: Sink, E: Sink>(
 
     // What that says of each status.
     ensures usage { result ≡ 64 → options_of (map string_bytes words.now) ≡ None }
+    ensures refused { result ≡ 6 → (options : _) × (file : List ℕ) × (refusal : _) × (options_of (map string_bytes words.now) ≡ Some options)
+        × IsFirstRefusal options (F.told files.old)
+        (record { started = F.started files.old; taken = F.taken files.old; faults_since_start = F.faults_since_start files.old; faults = F.read_faults files.old })
+        (record { started = F.started files.new; taken = F.taken files.new; faults_since_start = F.faults_since_start files.new; faults = F.read_faults files.new })
+        file refusal
+        × Appends (E.written err.old) (E.written err.new) (message_of (Answer.Refused file refusal)) }
     ensures successful { result ≡ 0 → (options : _) × (options_of (map string_bytes words.now) ≡ Some options)
         × Judges options (F.told files.old) (λ program counter. (property : _) → ¬ (CanBreak program counter options.bounds property)) }
     ensures failed { result ≡ 10 → (options : _) × (trace : List ℕ) × (options_of (map string_bytes words.now) ≡ Some options)

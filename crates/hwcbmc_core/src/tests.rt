@@ -4,6 +4,7 @@
 
 use crate::run;
 use io_edge::{MemFiles, MemSink};
+use std::alloc::{AllocError, Global};
 use std::test::Fail;
 
 const C_HEAD: &str =
@@ -109,7 +110,21 @@ const V_TEXT: &str =
 const USAGE: &str =
     "hwcbmc: usage: hwcbmc [--module NAME] [--bound K] [--unwind N] [--budget B] [--decide order|activity] [--check-bound] C_FILE V_FILE\n";
 
-/// The words over the files `c.c`, `counter.v` and `e.c`, which is empty, and a call of the files
+/// The files beside those that are nested.
+const TEXTS: [(&str, &str); 10] = [
+    ("c.c", C_TEXT),
+    ("counter.v", V_TEXT),
+    ("empty.c", ""),
+    ("word.c", "int 3;"),
+    ("end.c", "int main(void) {\n"),
+    ("input.v", "module m(input a;"),
+    ("list.v", "module m(a, input b);"),
+    ("end.v", "module m;"),
+    ("twice.v", "module m; endmodule x"),
+    ("m.v", "module m; endmodule"),
+];
+
+/// The words over the files of `TEXTS`, and `deep.c` and `deep.v`, in which a number stands 257 deep; and a call of the files
 /// that fails, if not 0.
 #[derive(Drop)]
 struct Refused {
@@ -117,6 +132,20 @@ struct Refused {
     fails_at: u64,
     status: u8,
     err: &'static str,
+}
+
+/// A number in so many parentheses, between two texts.
+fn nested(alloc: Global, front: &str, pairs: usize, back: &str) -> Result<String, AllocError> {
+    let mut text = String::from_str(alloc, front)?;
+    for _ in 0..pairs {
+        text.push_str("(")?;
+    }
+    text.push_str("1")?;
+    for _ in 0..pairs {
+        text.push_str(")")?;
+    }
+    text.push_str(back)?;
+    Ok(text)
 }
 
 #[test]
@@ -171,23 +200,87 @@ fn refusals_come_in_order_and_leave_out_alone(rt: HostRuntime) -> Result<(), Fai
             err: "hwcbmc: c.c: read fault\n",
         },
         Refused {
-            words: &["e.c", "c.c"],
+            words: &["word.c", "list.v"],
             fails_at: 0,
             status: 6,
-            err: "hwcbmc: e.c:1:1: unsupported\n",
+            err: "hwcbmc: word.c:1:5: syntax error\n",
         },
         Refused {
-            words: &["c.c", "c.c"],
+            words: &["end.c", "counter.v"],
             fails_at: 0,
             status: 6,
-            err: "hwcbmc: c.c:1:1: unsupported\n",
+            err: "hwcbmc: end.c:2:1: syntax error\n",
+        },
+        Refused {
+            words: &["counter.v", "counter.v"],
+            fails_at: 0,
+            status: 6,
+            err: "hwcbmc: counter.v:1:1: syntax error\n",
+        },
+        Refused {
+            words: &["deep.c", "input.v"],
+            fails_at: 0,
+            status: 6,
+            err: "hwcbmc: deep.c:1:262: nested too deep\n",
+        },
+        Refused {
+            words: &["empty.c", "c.c"],
+            fails_at: 0,
+            status: 6,
+            err: "hwcbmc: c.c:1:1: syntax error\n",
+        },
+        Refused {
+            words: &["empty.c", "input.v"],
+            fails_at: 0,
+            status: 6,
+            err: "hwcbmc: input.v:1:17: syntax error\n",
+        },
+        Refused {
+            words: &["c.c", "list.v"],
+            fails_at: 0,
+            status: 6,
+            err: "hwcbmc: list.v:1:13: syntax error\n",
+        },
+        Refused {
+            words: &["c.c", "end.v"],
+            fails_at: 0,
+            status: 6,
+            err: "hwcbmc: end.v:1:10: syntax error\n",
+        },
+        Refused {
+            words: &["c.c", "twice.v"],
+            fails_at: 0,
+            status: 6,
+            err: "hwcbmc: twice.v:1:21: syntax error\n",
+        },
+        Refused {
+            words: &["empty.c", "deep.v"],
+            fails_at: 0,
+            status: 6,
+            err: "hwcbmc: deep.v:1:272: nested too deep\n",
+        },
+        Refused {
+            words: &["empty.c", "m.v"],
+            fails_at: 0,
+            status: 6,
+            err: "hwcbmc: empty.c:1:1: unsupported\n",
+        },
+        Refused {
+            words: &["c.c", "m.v"],
+            fails_at: 0,
+            status: 6,
+            err: "hwcbmc: m.v:1:1: unsupported\n",
         },
     ];
+    let deep_c = nested(rt.alloc(), "int x = ", 253, ";")?;
+    let deep_v = nested(rt.alloc(), "module m; wire w = ", 252, "; endmodule")?;
     for row in rows {
         let mut files = MemFiles::new(rt.alloc(), 64);
-        files.add("c.c", C_TEXT.as_bytes())?;
-        files.add("counter.v", V_TEXT.as_bytes())?;
-        files.add("e.c", &[])?;
+        for (name, text) in TEXTS {
+            files.add(name, text.as_bytes())?;
+        }
+        files.add("deep.c", deep_c.as_bytes())?;
+        files.add("deep.v", deep_v.as_bytes())?;
         files.fail_at(row.fails_at)?;
         let mut words = Vec::new(rt.alloc());
         for word in row.words {
