@@ -4,6 +4,7 @@
 //! values that it takes are not on top; the stack is then of no more use.
 #![tactic(auto)]
 
+mod characters;
 mod expression_actions;
 mod token_actions;
 

@@ -4,7 +4,6 @@ ghost use Rattle.std.specs.Prelude.{IfOk, reverse};
 ghost use Rattle.c_values.specs.Values.{Fits};
 ghost use Rattle.c_actions.specs.FileActions.{after_add_external, after_bound, after_const_globals, after_definition, after_extern, after_file, after_function, after_function_name, after_globals, after_integer_function, after_mirror, after_no_externals, after_no_storage, after_one_external, after_struct, after_void_function};
 
-use c_parts::{all_four, all_three, all_two};
 use c_tree::{CTree, External, FunctionHead, Globals, ResultType, Storage};
 use c_values::{
     FileValue, FunctionName, PartValue, TokenValue, Value, put, take_block, take_declarators,
@@ -14,6 +13,7 @@ use c_values::{
 use sqlite_items::Items;
 use src_text::Place;
 use std::alloc::{AllocError, Global};
+use takings::{all_four, all_three, all_two};
 
 /// No `extern` and no `static`
 pub fn make_no_storage(stack: &mut Vec<Value>) -> Result<bool, AllocError>

@@ -1,10 +1,10 @@
 //! Actions of statements (ISO C99, 6.8).
 
-ghost use Rattle.std.specs.Prelude.{IfOk, reverse};
+ghost use Rattle.std.specs.Prelude.{◌≡◌, IfOk, reverse};
+ghost use Rattle.c_tree.specs.Starts.{label_start};
 ghost use Rattle.c_values.specs.Values.{Fits};
 ghost use Rattle.c_actions.specs.StatementActions.{after_add_group, after_add_label, after_add_local, after_add_statement, after_add_to_group, after_assert, after_assign, after_block, after_break, after_call, after_case, after_compound, after_continue, after_cprover_assert, after_cprover_assume, after_default, after_do, after_empty, after_first_label, after_for, after_for_local, after_for_nothing, after_for_simple, after_group, after_if_alone, after_if_else, after_labelled, after_no_groups, after_no_items, after_no_simple, after_return, after_simple, after_some_simple, after_step_after, after_step_before, after_switch, after_update, after_while};
 
-use c_parts::{all_four, all_three, all_two, boxed_with, label_start};
 use c_tree::{Block, BlockItem, Call, ForFirst, Group, Label, Simple, Statement};
 use c_values::{
     Labels, StatementValue, SwitchValue, Value, put, take_assignment_mark, take_block,
@@ -14,7 +14,19 @@ use c_values::{
     take_statement, take_step_mark,
 };
 use sqlite_items::Items;
+use src_text::Place;
 use std::alloc::{AllocError, Global};
+use takings::{all_five, all_four, all_three, all_two, boxed_with};
+
+/// The place of a label's first token.
+fn label_start(label: &Label) -> Place
+    ensures { result ≡ label_start label.now }
+{
+    match label {
+        Label::Case(place, _) => *place,
+        Label::Default(place) => *place,
+    }
+}
 
 /// `Simple = Call`
 pub fn make_call(stack: &mut Vec<Value>) -> Result<bool, AllocError>
@@ -576,12 +588,15 @@ pub fn make_for(alloc: Global, stack: &mut Vec<Value>) -> Result<bool, AllocErro
     let condition = take_expression_option(stack);
     let first = take_for_first(stack);
     let place = take_place(stack);
-    let head = all_two(first, place);
-    let Some((body, step, condition, head)) = all_four(body, step, condition, head) else {
+    let Some((body, step, condition, first, place)) = all_five(body, step, condition, first, place)
+    else {
         return Ok(false);
     };
-    let (body, (step, condition, head)) = boxed_with(alloc, body, (step, condition, head))?;
-    let (first, place) = head;
+    let (body, (step, condition, first, place)) = boxed_with(
+        alloc,
+        body,
+        (step, condition, first, place),
+    )?;
     put(
         stack,
         Value::Statement(StatementValue::Statement(Statement::For(

@@ -1,5 +1,5 @@
 use Rattle.std.proofs.Common.{◌≡◌, [], ◌∷◌, ◌++◌, Some, None, reverse, sym, ◌∙◌}
-use Rattle.c_parts.proofs.Takings.{two_found, two_lost}
+use Rattle.takings.proofs.Takings.{two_found, two_lost}
 use Rattle.c_values.specs.Values.{with_item, with_items}
 use Rattle.c_values.specs.declared.values.Value.TheVariants as value
 use Rattle.c_values.specs.declared.values.DeclarationValue.TheVariants as declaration_value

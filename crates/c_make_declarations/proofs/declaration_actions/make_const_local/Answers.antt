@@ -1,5 +1,5 @@
 use Rattle.std.proofs.Common.{◌≡◌, [], ◌∷◌, ◌++◌, Some, None, reverse, sym, ◌∙◌}
-use Rattle.c_parts.proofs.Takings.{three_found, three_lost}
+use Rattle.takings.proofs.Takings.{three_found, three_lost}
 use Rattle.c_values.specs.Values.{with_declarators, with_place, with_type}
 use Rattle.c_values.specs.declared.values.Value.TheVariants as value
 use Rattle.c_values.specs.declared.values.DeclarationValue.TheVariants as declaration_value

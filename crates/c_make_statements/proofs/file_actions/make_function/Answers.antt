@@ -1,5 +1,5 @@
 use Rattle.std.proofs.Common.{◌≡◌, [], ◌∷◌, ◌++◌, Some, None, reverse, sym, ◌∙◌}
-use Rattle.c_parts.proofs.Takings.{three_found, three_lost}
+use Rattle.takings.proofs.Takings.{three_found, three_lost}
 use Rattle.c_values.specs.Values.{with_function, with_parameters, with_storage}
 use Rattle.c_tree.specs.declared.file.External.TheVariants as external
 use Rattle.c_values.specs.declared.values.Value.TheVariants as value

@@ -1,5 +1,5 @@
 use Rattle.std.proofs.Common.{◌≡◌, [], ◌∷◌, ◌++◌, Some, None, reverse, sym, ◌∙◌}
-use Rattle.c_parts.proofs.Takings.{two_found, two_lost}
+use Rattle.takings.proofs.Takings.{two_found, two_lost}
 use Rattle.c_values.specs.Values.{with_parts, with_place}
 use Rattle.c_values.specs.declared.values.Value.TheVariants as value
 use Rattle.c_values.specs.declared.values.StatementValue.TheVariants as statement_value

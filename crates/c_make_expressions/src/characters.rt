@@ -1,11 +1,7 @@
-//! What actions need to know of the parts that they take.
+//! The value of a character constant.
 
 ghost use Rattle.std.specs.Prelude.{◌≡◌, slice_index};
-ghost use Rattle.c_tree.specs.Starts.{label_start};
 ghost use Rattle.c_actions.specs.Characters.{escaped, character_value};
-
-use c_tree::Label;
-use src_text::Place;
 
 fn escaped(byte: u8) -> u8
     ensures { result ≡ escaped byte }
@@ -37,14 +33,4 @@ pub fn character_value(spelling: &[u8]) -> u8
         return escaped(byte_at(spelling, 2));
     }
     first
-}
-
-/// The place of a label's first token.
-pub fn label_start(label: &Label) -> Place
-    ensures { result ≡ label_start label.now }
-{
-    match label {
-        Label::Case(place, _) => *place,
-        Label::Default(place) => *place,
-    }
 }
