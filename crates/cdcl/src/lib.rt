@@ -11,6 +11,9 @@ mod activity;
 mod chooser;
 mod order;
 
+// What the clauses have to keep to.
+mod below;
+
 // What is true, and since when.
 mod trail;
 
@@ -30,6 +33,7 @@ mod learn;
 mod turn;
 
 pub use activity::ActivityChooser;
+pub use below::has_vars_below;
 pub use chooser::{Chooser, Choosers};
 use clause_arena::{Bits, ClauseArena};
 pub use counts::Counts;
@@ -51,7 +55,8 @@ pub enum Solved {
 }
 
 /// Looks for values of the variables `0` to `vars - 1` that satisfy the clauses, and derives at most
-/// `budget` clauses. The clauses that are there stay live under their ids.
+/// `budget` clauses. The clauses that are there stay live under their ids. Whether their variables are
+/// below `vars`, [`has_vars_below`] tells.
 pub fn solve(
     alloc: Global,
     arena: &mut ClauseArena,

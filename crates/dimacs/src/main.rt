@@ -3,14 +3,9 @@
 //! conflict, and how many literals clauses forced.
 #![tactic(auto)]
 
-ghost use Rattle.std.specs.Prelude.{◌≡◌, true, IsTrue};
-ghost use Rattle.clause_arena.specs.Clause.{is_below};
-ghost use Rattle.cdcl.specs.Trail.{AllClauses};
-
 mod reader;
 
-use cdcl::{ActivityChooser, Chooser, Counts, Solved, solve_counted};
-use clause_arena::{ClauseArena, ClauseId, Lit};
+use cdcl::{ActivityChooser, Chooser, Counts, Solved, has_vars_below, solve_counted};
 use reader::{Problem, read};
 use std::alloc::{AllocError, Global};
 use std::env;
@@ -21,28 +16,6 @@ const BUDGET: u64 = 10_000_000;
 
 /// How many clauses are solved at most.
 const MOST_CLAUSES: u32 = 1_000_000_000;
-
-fn are_below(lits: &[Lit], vars: u32) -> bool
-    ensures { result ≡ is_below vars lits.now }
-{
-    lits.iter().all(|l| l.var < vars)
-}
-
-/// Whether each variable of the clauses is below the number.
-fn has_vars_below(arena: &ClauseArena, vars: u32) -> bool
-    ensures { IsTrue result → AllClauses (is_below vars) arena.now.clauses }
-{
-    for i in 0..arena.count() {
-        let id = ClauseId(i);
-        if !arena.is_live(id) {
-            continue;
-        }
-        if !are_below(arena.lits(id), vars) {
-            return false;
-        }
-    }
-    true
-}
 
 /// Solves, and says how the answer is written.
 fn answer(

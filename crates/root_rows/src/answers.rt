@@ -1,13 +1,9 @@
 //! Whether the root of a net can be 1.
 
-ghost use Rattle.std.specs.Prelude.{◌≡◌, ◌<◌, length, IsTrue};
-ghost use Rattle.clause_arena.specs.Clause.{is_below};
-ghost use Rattle.cdcl.specs.Trail.{AllClauses};
-
 use anyhow::{Result, bail};
 use bitblast::Blasted;
-use cdcl::{Chooser, Solved, solve};
-use clause_arena::{Bits, ClauseArena, ClauseId, Lit};
+use cdcl::{Chooser, Solved, has_vars_below, solve};
+use clause_arena::{Bits, ClauseArena};
 use gate_net::to_clauses;
 use std::alloc::Global;
 
@@ -23,28 +19,6 @@ pub enum Answer {
     Kept,
     /// The budget did not reach.
     Open,
-}
-
-fn are_below(lits: &[Lit], vars: u32) -> bool
-    ensures { result ≡ is_below vars lits.now }
-{
-    lits.iter().all(|l| l.var < vars)
-}
-
-/// Whether each variable of the clauses is below the number.
-fn has_vars_below(arena: &ClauseArena, vars: u32) -> bool
-    ensures { IsTrue result → AllClauses (is_below vars) arena.now.clauses }
-{
-    for i in 0..arena.count() {
-        let id = ClauseId(i);
-        if !arena.is_live(id) {
-            continue;
-        }
-        if !are_below(arena.lits(id), vars) {
-            return false;
-        }
-    }
-    true
 }
 
 /// The clauses of a net, satisfied exactly where its root is 1.

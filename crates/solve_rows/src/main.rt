@@ -2,39 +2,15 @@
 //! smallest sets of clauses. The rows that are printed were worked out by hand.
 #![tactic(auto)]
 
-ghost use Rattle.std.specs.Prelude.{◌≡◌, ◌<◌, true, length, IsTrue, OnOk};
-ghost use Rattle.clause_arena.specs.Clause.{is_below};
-ghost use Rattle.cdcl.specs.Trail.{AllClauses};
+ghost use Rattle.std.specs.Prelude.{◌<◌};
 
 mod picks;
 
-use cdcl::{ActivityChooser, Chooser, OrderChooser, Solved, solve};
-use clause_arena::{ClauseArena, ClauseId, Lit};
+use cdcl::{ActivityChooser, Chooser, OrderChooser, Solved, has_vars_below, solve};
+use clause_arena::{ClauseArena, Lit};
 use picks::{Always, Downwards, Recording};
 use std::alloc::{AllocError, Global};
 use std::io::{self, Print};
-
-fn are_below(lits: &[Lit], vars: u32) -> bool
-    ensures { result ≡ is_below vars lits.now }
-{
-    lits.iter().all(|l| l.var < vars)
-}
-
-/// Whether each variable of the clauses is below the number.
-fn has_vars_below(arena: &ClauseArena, vars: u32) -> bool
-    ensures { IsTrue result → AllClauses (is_below vars) arena.now.clauses }
-{
-    for i in 0..arena.count() {
-        let id = ClauseId(i);
-        if !arena.is_live(id) {
-            continue;
-        }
-        if !are_below(arena.lits(id), vars) {
-            return false;
-        }
-    }
-    true
-}
 
 /// Puts a clause of both variables with these signs.
 fn put_two(arena: &mut ClauseArena, first: bool, second: bool) -> Result<(), AllocError> {
