@@ -1,3 +1,4 @@
+mod Answers
 mod InOrder
 mod Productions
 mod Spellings

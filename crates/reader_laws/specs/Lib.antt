@@ -6,3 +6,4 @@ pub mod CWords
 pub mod CExpressions
 pub mod CStatements
 pub mod CDeclarations
+pub mod Answers
