@@ -12,7 +12,7 @@ use Rattle.c_actions.specs.ExpressionActions.{after_object, after_add_path_membe
 use Rattle.c_actions.specs.DeclarationActions.{after_char_type, after_short_type, after_int_type, after_long_type, after_value, after_call_value, after_no_initializer, after_some_initializer, after_plain_declarator, after_initialized, after_array_declarator, after_initialized_array, after_one_declarator, after_add_declarator, after_local, after_const_local, after_plain_item, after_array_item, after_one_item, after_add_item, after_one_name, after_add_name, after_integer_members, after_struct_members, after_one_member, after_add_member, after_no_name, after_some_name, after_parameter, after_const_parameter, after_no_parameters, after_one_parameter, after_add_parameter}
 use Rattle.c_actions.specs.StatementActions.{after_call, after_assign, after_update, after_step_after, after_step_before, after_no_simple, after_some_simple, after_for_nothing, after_for_local, after_for_simple, after_case, after_default, after_first_label, after_add_label, after_labelled, after_add_to_group, after_group, after_no_groups, after_add_group, after_no_items, after_add_local, after_add_statement, after_block, after_compound, after_empty, after_simple, after_if_alone, after_if_else, after_while, after_do, after_for, after_switch, after_break, after_continue, after_return, after_assert, after_cprover_assert, after_cprover_assume}
 use Rattle.c_actions.specs.FileActions.{after_no_storage, after_extern, after_function_name, after_void_function, after_integer_function, after_function, after_definition, after_globals, after_const_globals, after_struct, after_mirror, after_bound, after_no_externals, after_one_external, after_add_external, after_file}
-use Rattle.c_values.specs.Values.{Values}
+use Rattle.c_stack.specs.Values.{Values}
 use Rattle.c_actions.specs.Sorts.{sorts_of}
 use Rattle.c_actions.proofs.Tops.{has_externals, has_external, has_place, has_declared, has_members, has_name, has_type, has_storage, has_function, has_parameters, has_block, has_declarators, has_member, has_items, has_names, has_item, has_expression, has_parameter, has_name_option, has_declarator, has_initializer, has_expressions, has_sign, has_parts, has_local, has_statement, has_simple, has_for_first, has_expression_option, has_simple_option, has_groups, has_initializer_option, has_group, has_label, has_labels, has_labelled, has_path, has_assignment_mark, has_step_mark, has_object, has_unary_mark, has_binary_mark}
 

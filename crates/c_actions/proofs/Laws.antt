@@ -2,8 +2,8 @@
 use Rattle.std.proofs.Common.{◌≡◌, [], ◌∷◌, Some, sym, ◌∙◌, ap}
 use Rattle.c_tokens.specs.Directives.{c_tokens}
 use Rattle.c_tree.specs.declared.file.CTree.{CTree}
-use Rattle.c_values.specs.declared.values.Value.TheVariants as value
-use Rattle.c_values.specs.declared.values.FileValue.TheVariants as file_value
+use Rattle.c_stack.specs.declared.values.Value.TheVariants as value
+use Rattle.c_stack.specs.declared.values.FileValue.TheVariants as file_value
 use Rattle.c_grammar.specs.Table.{TABLE}
 use Rattle.c_grammar.proofs.Fit.{c_is_ll}
 use Rattle.c_actions.specs.Reading.{kinds_of, built, actions_of}

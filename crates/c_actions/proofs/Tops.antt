@@ -27,17 +27,17 @@ use Rattle.c_tree.specs.declared.statements.Group.{Group}
 use Rattle.c_tree.specs.declared.statements.Label.{Label}
 use Rattle.c_tree.specs.declared.statements.Simple.{Simple}
 use Rattle.c_tree.specs.declared.statements.Statement.{Statement}
-use Rattle.c_values.specs.declared.values.FunctionName.{FunctionName}
-use Rattle.c_values.specs.declared.values.Labels.{Labels}
-use Rattle.c_values.specs.declared.values.Value.TheVariants as value
-use Rattle.c_values.specs.declared.values.TokenValue.TheVariants as token_value
-use Rattle.c_values.specs.declared.values.ExpressionValue.TheVariants as expression_value
-use Rattle.c_values.specs.declared.values.DeclarationValue.TheVariants as declaration_value
-use Rattle.c_values.specs.declared.values.PartValue.TheVariants as part_value
-use Rattle.c_values.specs.declared.values.StatementValue.TheVariants as statement_value
-use Rattle.c_values.specs.declared.values.SwitchValue.TheVariants as switch_value
-use Rattle.c_values.specs.declared.values.FileValue.TheVariants as file_value
-use Rattle.c_values.specs.Values.{Values, Goes, with_externals, with_tree, with_external, with_place, with_declared, with_members, with_name, with_type, with_storage, with_function, with_parameters, with_block, with_declarators, with_member, with_items, with_names, with_item, with_expression, with_parameter, with_name_option, with_declarator, with_initializer, with_expressions, with_sign, with_parts, with_local, with_statement, with_simple, with_for_first, with_expression_option, with_simple_option, with_groups, with_initializer_option, with_group, with_label, with_labels, with_labelled, with_path, with_assignment_mark, with_step_mark, with_object, with_unary_mark, with_binary_mark}
+use Rattle.c_stack.specs.declared.values.FunctionName.{FunctionName}
+use Rattle.c_stack.specs.declared.values.Labels.{Labels}
+use Rattle.c_stack.specs.declared.values.Value.TheVariants as value
+use Rattle.c_stack.specs.declared.values.TokenValue.TheVariants as token_value
+use Rattle.c_stack.specs.declared.values.ExpressionValue.TheVariants as expression_value
+use Rattle.c_stack.specs.declared.values.DeclarationValue.TheVariants as declaration_value
+use Rattle.c_stack.specs.declared.values.PartValue.TheVariants as part_value
+use Rattle.c_stack.specs.declared.values.StatementValue.TheVariants as statement_value
+use Rattle.c_stack.specs.declared.values.SwitchValue.TheVariants as switch_value
+use Rattle.c_stack.specs.declared.values.FileValue.TheVariants as file_value
+use Rattle.c_stack.specs.Values.{Values, Goes, with_externals, with_tree, with_external, with_place, with_declared, with_members, with_name, with_type, with_storage, with_function, with_parameters, with_block, with_declarators, with_member, with_items, with_names, with_item, with_expression, with_parameter, with_name_option, with_declarator, with_initializer, with_expressions, with_sign, with_parts, with_local, with_statement, with_simple, with_for_first, with_expression_option, with_simple_option, with_groups, with_initializer_option, with_group, with_label, with_labels, with_labelled, with_path, with_assignment_mark, with_step_mark, with_object, with_unary_mark, with_binary_mark}
 use Rattle.c_actions.specs.Sorts.{sorts_of}
 
 tails : {x y : ℕ} {xs ys : List ℕ} → x ∷ xs ≡ y ∷ ys → xs ≡ ys

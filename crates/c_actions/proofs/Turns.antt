@@ -18,7 +18,7 @@ use Rattle.c_actions.specs.declared.actions.Action.TheVariants as action
 use Rattle.c_actions.specs.Acts.{after_action, after_token_action, after_expression_action, after_declaration_action, after_statement_action, after_file_action}
 use Rattle.c_actions.specs.declared.actions.TheConstants.{ACTIONS}
 use Rattle.c_actions.specs.Numbers.{action_of}
-use Rattle.c_values.specs.Values.{Values}
+use Rattle.c_stack.specs.Values.{Values}
 use Rattle.c_grammar.specs.Actions.{SIGNATURES}
 use Rattle.c_actions.specs.Sorts.{sorts_of}
 use Rattle.c_actions.proofs.Fitting.{Makes, fit_place, fit_name, fit_declared, fit_integer, fit_character, fit_true, fit_false, fit_static, fit_word_type, fit_sign, fit_unary_mark, fit_binary_mark, fit_assignment_mark, fit_step_mark, fit_object, fit_add_path_member, fit_path, fit_element, fit_no_expressions, fit_one_expression, fit_add_expression, fit_no_expression, fit_some_expression, fit_read, fit_parentheses, fit_unary, fit_cast, fit_binary, fit_conditional, fit_char_type, fit_short_type, fit_int_type, fit_long_type, fit_value, fit_call_value, fit_no_initializer, fit_some_initializer, fit_plain_declarator, fit_initialized, fit_array_declarator, fit_initialized_array, fit_one_declarator, fit_add_declarator, fit_local, fit_const_local, fit_plain_item, fit_array_item, fit_one_item, fit_add_item, fit_one_name, fit_add_name, fit_integer_members, fit_struct_members, fit_one_member, fit_add_member, fit_no_name, fit_some_name, fit_parameter, fit_const_parameter, fit_no_parameters, fit_one_parameter, fit_add_parameter, fit_call, fit_assign, fit_update, fit_step_after, fit_step_before, fit_no_simple, fit_some_simple, fit_for_nothing, fit_for_local, fit_for_simple, fit_case, fit_default, fit_first_label, fit_add_label, fit_labelled, fit_add_to_group, fit_group, fit_no_groups, fit_add_group, fit_no_items, fit_add_local, fit_add_statement, fit_block, fit_compound, fit_empty, fit_simple, fit_if_alone, fit_if_else, fit_while, fit_do, fit_for, fit_switch, fit_break, fit_continue, fit_return, fit_assert, fit_cprover_assert, fit_cprover_assume, fit_no_storage, fit_extern, fit_function_name, fit_void_function, fit_integer_function, fit_function, fit_definition, fit_globals, fit_const_globals, fit_struct, fit_mirror, fit_bound, fit_no_externals, fit_one_external, fit_add_external, fit_file}

@@ -13,7 +13,7 @@ use Rattle.c_actions.specs.declared.actions.FileAction.{FileAction}
 use Rattle.c_actions.specs.declared.actions.FileAction.TheVariants as file_action
 use Rattle.c_actions.specs.declared.actions.Action.{Action}
 use Rattle.c_actions.specs.declared.actions.Action.TheVariants as action
-use Rattle.c_values.specs.Values.{Values}
+use Rattle.c_stack.specs.Values.{Values}
 use Rattle.c_actions.specs.TokenActions.{after_place, after_name, after_declared, after_integer, after_character, after_true, after_false, after_static, after_word_type, after_sign, after_unary_mark, after_binary_mark, after_assignment_mark, after_step_mark}
 use Rattle.c_actions.specs.ExpressionActions.{after_object, after_add_path_member, after_path, after_element, after_no_expressions, after_one_expression, after_add_expression, after_no_expression, after_some_expression, after_read, after_parentheses, after_unary, after_cast, after_binary, after_conditional}
 use Rattle.c_actions.specs.DeclarationActions.{after_char_type, after_short_type, after_int_type, after_long_type, after_value, after_call_value, after_no_initializer, after_some_initializer, after_plain_declarator, after_initialized, after_array_declarator, after_initialized_array, after_one_declarator, after_add_declarator, after_local, after_const_local, after_plain_item, after_array_item, after_one_item, after_add_item, after_one_name, after_add_name, after_integer_members, after_struct_members, after_one_member, after_add_member, after_no_name, after_some_name, after_parameter, after_const_parameter, after_no_parameters, after_one_parameter, after_add_parameter}

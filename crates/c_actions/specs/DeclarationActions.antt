@@ -5,11 +5,11 @@ use Rattle.c_tree.specs.declared.declarations.Initializer.TheVariants as initial
 use Rattle.c_tree.specs.declared.declarations.IntegerType.TheVariants as integer
 use Rattle.c_tree.specs.declared.declarations.Member.TheVariants as member
 use Rattle.c_tree.specs.declared.declarations.MemberDeclarator.TheVariants as member_declarator
-use Rattle.c_values.specs.declared.values.Value.TheVariants as value
-use Rattle.c_values.specs.declared.values.ExpressionValue.TheVariants as expression_value
-use Rattle.c_values.specs.declared.values.DeclarationValue.TheVariants as declaration_value
-use Rattle.c_values.specs.declared.values.PartValue.TheVariants as part_value
-use Rattle.c_values.specs.Values.{Values, with_place, with_name, with_declared, with_sign, with_type, with_expression, with_expressions, with_initializer, with_declarator, with_declarators, with_item, with_items, with_names, with_member, with_members, with_name_option, with_parameter, with_parameters}
+use Rattle.c_stack.specs.declared.values.Value.TheVariants as value
+use Rattle.c_stack.specs.declared.values.ExpressionValue.TheVariants as expression_value
+use Rattle.c_stack.specs.declared.values.DeclarationValue.TheVariants as declaration_value
+use Rattle.c_stack.specs.declared.values.PartValue.TheVariants as part_value
+use Rattle.c_stack.specs.Values.{Values, with_place, with_name, with_declared, with_sign, with_type, with_expression, with_expressions, with_initializer, with_declarator, with_declarators, with_item, with_items, with_names, with_member, with_members, with_name_option, with_parameter, with_parameters}
 
 -- Type = [Sign] "char"
 abbrev pub after_char_type : Values → Option Values

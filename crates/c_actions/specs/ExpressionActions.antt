@@ -2,9 +2,9 @@
 use Rattle.std.specs.Prelude.{[], ◌∷◌, ◌++◌, Option, Some, None}
 use Rattle.c_tree.specs.declared.expressions.Expression.TheVariants as expression
 use Rattle.c_tree.specs.declared.expressions.Path.TheVariants as path
-use Rattle.c_values.specs.declared.values.Value.TheVariants as value
-use Rattle.c_values.specs.declared.values.ExpressionValue.TheVariants as expression_value
-use Rattle.c_values.specs.Values.{Values, with_place, with_name, with_unary_mark, with_binary_mark, with_type, with_object, with_path, with_expression, with_expressions}
+use Rattle.c_stack.specs.declared.values.Value.TheVariants as value
+use Rattle.c_stack.specs.declared.values.ExpressionValue.TheVariants as expression_value
+use Rattle.c_stack.specs.Values.{Values, with_place, with_name, with_unary_mark, with_binary_mark, with_type, with_object, with_path, with_expression, with_expressions}
 
 -- Object = ID
 abbrev pub after_object : Values → Option Values

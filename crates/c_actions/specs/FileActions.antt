@@ -4,11 +4,11 @@ use Rattle.src_text.specs.declared.refusal.Place.{Place}
 use Rattle.c_tree.specs.declared.declarations.ResultType.TheVariants as result_type
 use Rattle.c_tree.specs.declared.declarations.Storage.TheVariants as storage
 use Rattle.c_tree.specs.declared.file.External.TheVariants as external
-use Rattle.c_values.specs.declared.values.Value.TheVariants as value
-use Rattle.c_values.specs.declared.values.TokenValue.TheVariants as token_value
-use Rattle.c_values.specs.declared.values.PartValue.TheVariants as part_value
-use Rattle.c_values.specs.declared.values.FileValue.TheVariants as file_value
-use Rattle.c_values.specs.Values.{Values, with_place, with_name, with_declared, with_type, with_declarators, with_block, with_members, with_parameters, with_storage, with_function, with_external, with_externals}
+use Rattle.c_stack.specs.declared.values.Value.TheVariants as value
+use Rattle.c_stack.specs.declared.values.TokenValue.TheVariants as token_value
+use Rattle.c_stack.specs.declared.values.PartValue.TheVariants as part_value
+use Rattle.c_stack.specs.declared.values.FileValue.TheVariants as file_value
+use Rattle.c_stack.specs.Values.{Values, with_place, with_name, with_declared, with_type, with_declarators, with_block, with_members, with_parameters, with_storage, with_function, with_external, with_externals}
 
 -- no extern and no static
 abbrev pub after_no_storage : Values → Option Values

@@ -12,9 +12,9 @@ use Rattle.c_tokens.specs.declared.directives.CToken.{CToken}
 use Rattle.c_tree.specs.declared.file.CTree.{CTree}
 use Rattle.c_actions.specs.Acts.{after_action}
 use Rattle.c_actions.specs.Numbers.{action_of}
-use Rattle.c_values.specs.Values.{Values}
-use Rattle.c_values.specs.declared.values.Value.TheVariants as value
-use Rattle.c_values.specs.declared.values.FileValue.TheVariants as file_value
+use Rattle.c_stack.specs.Values.{Values}
+use Rattle.c_stack.specs.declared.values.Value.TheVariants as value
+use Rattle.c_stack.specs.declared.values.FileValue.TheVariants as file_value
 use Rattle.c_grammar.specs.Table.{TABLE}
 use Rattle.c_grammar.specs.declared.TheConstants.{MARKS}
 

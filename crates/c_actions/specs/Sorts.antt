@@ -1,15 +1,15 @@
 -- The sort of each value, by the numbers that the table's actions have.
 use Rattle.std.specs.Prelude.{ℕ, List, map}
-use Rattle.c_values.specs.declared.values.Value.{Value}
-use Rattle.c_values.specs.declared.values.Value.TheVariants as value
-use Rattle.c_values.specs.declared.values.TokenValue.TheVariants as token_value
-use Rattle.c_values.specs.declared.values.ExpressionValue.TheVariants as expression_value
-use Rattle.c_values.specs.declared.values.DeclarationValue.TheVariants as declaration_value
-use Rattle.c_values.specs.declared.values.PartValue.TheVariants as part_value
-use Rattle.c_values.specs.declared.values.StatementValue.TheVariants as statement_value
-use Rattle.c_values.specs.declared.values.SwitchValue.TheVariants as switch_value
-use Rattle.c_values.specs.declared.values.FileValue.TheVariants as file_value
-use Rattle.c_values.specs.Values.{Values}
+use Rattle.c_stack.specs.declared.values.Value.{Value}
+use Rattle.c_stack.specs.declared.values.Value.TheVariants as value
+use Rattle.c_stack.specs.declared.values.TokenValue.TheVariants as token_value
+use Rattle.c_stack.specs.declared.values.ExpressionValue.TheVariants as expression_value
+use Rattle.c_stack.specs.declared.values.DeclarationValue.TheVariants as declaration_value
+use Rattle.c_stack.specs.declared.values.PartValue.TheVariants as part_value
+use Rattle.c_stack.specs.declared.values.StatementValue.TheVariants as statement_value
+use Rattle.c_stack.specs.declared.values.SwitchValue.TheVariants as switch_value
+use Rattle.c_stack.specs.declared.values.FileValue.TheVariants as file_value
+use Rattle.c_stack.specs.Values.{Values}
 
 abbrev pub sort_of : Value → ℕ
 sort_of (value.File (file_value.Externals x)) = 0

@@ -5,10 +5,10 @@ use Rattle.c_tree.specs.declared.statements.ForFirst.TheVariants as for_first
 use Rattle.c_tree.specs.declared.statements.Label.TheVariants as label
 use Rattle.c_tree.specs.declared.statements.Simple.TheVariants as simple
 use Rattle.c_tree.specs.declared.statements.Statement.TheVariants as statement
-use Rattle.c_values.specs.declared.values.Value.TheVariants as value
-use Rattle.c_values.specs.declared.values.StatementValue.TheVariants as statement_value
-use Rattle.c_values.specs.declared.values.SwitchValue.TheVariants as switch_value
-use Rattle.c_values.specs.Values.{Values, with_place, with_name, with_assignment_mark, with_step_mark, with_path, with_expression, with_expressions, with_expression_option, with_initializer, with_initializer_option, with_local, with_simple, with_simple_option, with_for_first, with_label, with_labels, with_labelled, with_group, with_groups, with_statement, with_parts, with_block}
+use Rattle.c_stack.specs.declared.values.Value.TheVariants as value
+use Rattle.c_stack.specs.declared.values.StatementValue.TheVariants as statement_value
+use Rattle.c_stack.specs.declared.values.SwitchValue.TheVariants as switch_value
+use Rattle.c_stack.specs.Values.{Values, with_place, with_name, with_assignment_mark, with_step_mark, with_path, with_expression, with_expressions, with_expression_option, with_initializer, with_initializer_option, with_local, with_simple, with_simple_option, with_for_first, with_label, with_labels, with_labelled, with_group, with_groups, with_statement, with_parts, with_block}
 use Rattle.c_tree.specs.Starts.{label_start}
 
 -- Simple = Call

@@ -10,11 +10,11 @@ use Rattle.c_tree.specs.declared.expressions.BinaryOperator.{BinaryOperator}
 use Rattle.c_tree.specs.declared.expressions.Expression.TheVariants as expression
 use Rattle.c_tree.specs.declared.expressions.StepOperator.{StepOperator}
 use Rattle.c_tree.specs.declared.expressions.UnaryOperator.{UnaryOperator}
-use Rattle.c_values.specs.declared.values.Value.TheVariants as value
-use Rattle.c_values.specs.declared.values.TokenValue.TheVariants as token_value
-use Rattle.c_values.specs.declared.values.ExpressionValue.TheVariants as expression_value
-use Rattle.c_values.specs.declared.values.PartValue.TheVariants as part_value
-use Rattle.c_values.specs.Values.{Values}
+use Rattle.c_stack.specs.declared.values.Value.TheVariants as value
+use Rattle.c_stack.specs.declared.values.TokenValue.TheVariants as token_value
+use Rattle.c_stack.specs.declared.values.ExpressionValue.TheVariants as expression_value
+use Rattle.c_stack.specs.declared.values.PartValue.TheVariants as part_value
+use Rattle.c_stack.specs.Values.{Values}
 use Rattle.c_actions.specs.Characters.{character_value}
 
 -- the place of a token

@@ -1,9 +1,9 @@
 -- The tree that is taken off the stack at the end.
 use Rattle.std.proofs.Common.{◌≡◌, [], ◌∷◌, Option, Some, None, sym, ap, ◌∙◌}
 use Rattle.c_tree.specs.declared.file.CTree.{CTree}
-use Rattle.c_values.specs.Values.{Values, Goes, with_tree}
-use Rattle.c_values.specs.declared.values.Value.TheVariants as value
-use Rattle.c_values.specs.declared.values.FileValue.TheVariants as file_value
+use Rattle.c_stack.specs.Values.{Values, Goes, with_tree}
+use Rattle.c_stack.specs.declared.values.Value.TheVariants as value
+use Rattle.c_stack.specs.declared.values.FileValue.TheVariants as file_value
 use Rattle.c_actions.specs.Reading.{BuildsTree}
 
 nothing : (o : Option Values) → BuildsTree o → None ≡ o → ⊥

@@ -6,7 +6,7 @@ use Rattle.src_text.specs.Place.{place_at}
 use Rattle.ll_actions.specs.declared.step.Step.{Step}
 use Rattle.c_tokens.specs.Reading.{IsTokenOf}
 use Rattle.c_tokens.specs.declared.directives.CToken.{CToken}
-use Rattle.c_values.specs.Values.{Values}
+use Rattle.c_stack.specs.Values.{Values}
 use Rattle.c_actions.specs.Acts.{after_action}
 use Rattle.c_actions.specs.Numbers.{action_of}
 use Rattle.c_actions.specs.Reading.{end_of, spelling, token_before}

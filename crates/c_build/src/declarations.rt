@@ -1,7 +1,7 @@
 //! Actions of declarations (ISO C99, 6.7).
 
 ghost use Rattle.std.specs.Prelude.{IfOk, reverse};
-ghost use Rattle.c_values.specs.Values.{Fits};
+ghost use Rattle.c_stack.specs.Values.{Fits};
 ghost use Rattle.c_actions.specs.Acts.{after_declaration_action};
 
 use c_actions::DeclarationAction;
@@ -14,7 +14,7 @@ use c_make_declarations::{
     make_one_parameter, make_parameter, make_plain_declarator, make_plain_item, make_short_type,
     make_some_initializer, make_some_name, make_struct_members, make_value,
 };
-use c_values::Value;
+use c_stack::Value;
 use std::alloc::{AllocError, Global};
 
 /// Carries out an action of declarations.

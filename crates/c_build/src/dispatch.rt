@@ -1,7 +1,7 @@
 //! What an action does to the stack, by the action.
 
 ghost use Rattle.std.specs.Prelude.{IfOk, reverse};
-ghost use Rattle.c_values.specs.Values.{Fits};
+ghost use Rattle.c_stack.specs.Values.{Fits};
 ghost use Rattle.c_actions.specs.Acts.{after_action};
 
 use crate::declarations::act_declaration;
@@ -10,7 +10,7 @@ use crate::files::act_file;
 use crate::statements::act_statement;
 use crate::tokens::act_token;
 use c_actions::Action;
-use c_values::Value;
+use c_stack::Value;
 use src_text::Place;
 use std::alloc::{AllocError, Global};
 

@@ -1,7 +1,7 @@
 //! Actions of expressions (ISO C99, 6.5).
 
 ghost use Rattle.std.specs.Prelude.{IfOk, reverse};
-ghost use Rattle.c_values.specs.Values.{Fits};
+ghost use Rattle.c_stack.specs.Values.{Fits};
 ghost use Rattle.c_actions.specs.Acts.{after_expression_action};
 
 use c_actions::ExpressionAction;
@@ -10,7 +10,7 @@ use c_make_expressions::{
     make_element, make_no_expression, make_no_expressions, make_object, make_one_expression,
     make_parentheses, make_path, make_read, make_some_expression, make_unary,
 };
-use c_values::Value;
+use c_stack::Value;
 use std::alloc::{AllocError, Global};
 
 /// Carries out an action of expressions.

@@ -1,7 +1,7 @@
 //! Actions of external declarations (ISO C99, 6.9).
 
 ghost use Rattle.std.specs.Prelude.{IfOk, reverse};
-ghost use Rattle.c_values.specs.Values.{Fits};
+ghost use Rattle.c_stack.specs.Values.{Fits};
 ghost use Rattle.c_actions.specs.Acts.{after_file_action};
 
 use c_actions::FileAction;
@@ -10,7 +10,7 @@ use c_make_statements::{
     make_function, make_function_name, make_globals, make_integer_function, make_mirror,
     make_no_externals, make_no_storage, make_one_external, make_struct, make_void_function,
 };
-use c_values::Value;
+use c_stack::Value;
 use src_text::Place;
 use std::alloc::{AllocError, Global};
 

@@ -1,7 +1,7 @@
 //! Actions of statements (ISO C99, 6.8).
 
 ghost use Rattle.std.specs.Prelude.{IfOk, reverse};
-ghost use Rattle.c_values.specs.Values.{Fits};
+ghost use Rattle.c_stack.specs.Values.{Fits};
 ghost use Rattle.c_actions.specs.Acts.{after_statement_action};
 
 use c_actions::StatementAction;
@@ -14,7 +14,7 @@ use c_make_statements::{
     make_return, make_simple, make_some_simple, make_step_after, make_step_before, make_switch,
     make_update, make_while,
 };
-use c_values::Value;
+use c_stack::Value;
 use std::alloc::{AllocError, Global};
 
 /// Carries out an action of statements.

@@ -1,7 +1,7 @@
 //! Actions that make a value of the token right before them.
 
 ghost use Rattle.std.specs.Prelude.{IfOk, reverse};
-ghost use Rattle.c_values.specs.Values.{Fits};
+ghost use Rattle.c_stack.specs.Values.{Fits};
 ghost use Rattle.c_actions.specs.Acts.{after_token_action};
 
 use c_actions::TokenAction;
@@ -10,7 +10,7 @@ use c_make_expressions::{
     make_integer, make_name, make_place, make_sign, make_static, make_step_mark, make_true,
     make_unary_mark, make_word_type,
 };
-use c_values::Value;
+use c_stack::Value;
 use src_text::Place;
 use std::alloc::{AllocError, Global};
 

@@ -1,22 +1,22 @@
 //! Actions of declarations (ISO C99, 6.7).
 
 ghost use Rattle.std.specs.Prelude.{IfOk, reverse};
-ghost use Rattle.c_values.specs.Values.{Fits};
+ghost use Rattle.c_stack.specs.Values.{Fits};
 ghost use Rattle.c_actions.specs.DeclarationActions.{after_add_declarator, after_add_item, after_add_member, after_add_name, after_add_parameter, after_array_declarator, after_array_item, after_call_value, after_char_type, after_const_local, after_const_parameter, after_initialized, after_initialized_array, after_int_type, after_integer_members, after_local, after_long_type, after_no_initializer, after_no_name, after_no_parameters, after_one_declarator, after_one_item, after_one_member, after_one_name, after_one_parameter, after_parameter, after_plain_declarator, after_plain_item, after_short_type, after_some_initializer, after_some_name, after_struct_members, after_value};
 
-use c_tree::{
-    Call, Declarator, Initializer, IntegerType, Local, Member, MemberDeclarator, Parameter,
-    TypeName,
-};
-use c_values::{
+use c_stack::{
     DeclarationValue, ExpressionValue, PartValue, Value, put, take_declarator, take_declarators,
     take_declared, take_expression, take_expressions, take_initializer, take_item, take_items,
     take_member, take_members, take_name, take_name_option, take_names, take_parameter,
     take_parameters, take_place, take_sign, take_type,
 };
+use c_tree::{
+    Call, Declarator, Initializer, IntegerType, Local, Member, MemberDeclarator, Parameter,
+    TypeName,
+};
 use sqlite_items::Items;
+use stack_parts::{all_three, all_two};
 use std::alloc::{AllocError, Global};
-use takings::{all_three, all_two};
 
 /// `Type = [Sign] "char"`
 pub fn make_char_type(stack: &mut Vec<Value>) -> Result<bool, AllocError>

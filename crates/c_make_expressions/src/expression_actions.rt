@@ -1,17 +1,17 @@
 //! Actions of expressions (ISO C99, 6.5).
 
 ghost use Rattle.std.specs.Prelude.{IfOk, reverse};
-ghost use Rattle.c_values.specs.Values.{Fits};
+ghost use Rattle.c_stack.specs.Values.{Fits};
 ghost use Rattle.c_actions.specs.ExpressionActions.{after_add_expression, after_add_path_member, after_binary, after_cast, after_conditional, after_element, after_no_expression, after_no_expressions, after_object, after_one_expression, after_parentheses, after_path, after_read, after_some_expression, after_unary};
 
-use c_tree::{Expression, Object, Path};
-use c_values::{
+use c_stack::{
     ExpressionValue, Value, put, take_binary_mark, take_expression, take_expressions, take_name,
     take_object, take_path, take_place, take_type, take_unary_mark,
 };
+use c_tree::{Expression, Object, Path};
 use sqlite_items::{Boxed, Items};
+use stack_parts::{all_four, all_three, all_two, boxed_three, boxed_two, boxed_with};
 use std::alloc::{AllocError, Global};
-use takings::{all_four, all_three, all_two, boxed_three, boxed_two, boxed_with};
 
 /// `Object = ID`
 pub fn make_object(alloc: Global, stack: &mut Vec<Value>) -> Result<bool, AllocError>

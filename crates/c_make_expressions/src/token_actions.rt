@@ -1,16 +1,16 @@
 //! Actions that make a value of the token right before them.
 
 ghost use Rattle.std.specs.Prelude.{IfOk, reverse};
-ghost use Rattle.c_values.specs.Values.{Fits};
+ghost use Rattle.c_stack.specs.Values.{Fits};
 ghost use Rattle.c_actions.specs.TokenActions.{after_assignment_mark, after_binary_mark, after_character, after_declared, after_false, after_integer, after_name, after_place, after_sign, after_static, after_step_mark, after_true, after_unary_mark, after_word_type};
 
 use crate::characters::character_value;
+use c_stack::{ExpressionValue, PartValue, TokenValue, Value, put};
 use c_tree::{
     AssignmentMark, AssignmentOperator, BinaryMark, BinaryOperator, Expression, Identifier,
     IntegerType, Sign, SignMark, StepMark, StepOperator, Storage, TypeName, UnaryMark,
     UnaryOperator,
 };
-use c_values::{ExpressionValue, PartValue, TokenValue, Value, put};
 use src_text::{Name, Place};
 use std::alloc::{AllocError, Global};
 

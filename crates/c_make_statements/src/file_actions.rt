@@ -1,19 +1,19 @@
 //! Actions of external declarations (ISO C99, 6.9).
 
 ghost use Rattle.std.specs.Prelude.{IfOk, reverse};
-ghost use Rattle.c_values.specs.Values.{Fits};
+ghost use Rattle.c_stack.specs.Values.{Fits};
 ghost use Rattle.c_actions.specs.FileActions.{after_add_external, after_bound, after_const_globals, after_definition, after_extern, after_file, after_function, after_function_name, after_globals, after_integer_function, after_mirror, after_no_externals, after_no_storage, after_one_external, after_struct, after_void_function};
 
-use c_tree::{CTree, External, FunctionHead, Globals, ResultType, Storage};
-use c_values::{
+use c_stack::{
     FileValue, FunctionName, PartValue, TokenValue, Value, put, take_block, take_declarators,
     take_declared, take_external, take_externals, take_function, take_members, take_name,
     take_parameters, take_place, take_storage, take_type,
 };
+use c_tree::{CTree, External, FunctionHead, Globals, ResultType, Storage};
 use sqlite_items::Items;
 use src_text::Place;
+use stack_parts::{all_four, all_three, all_two};
 use std::alloc::{AllocError, Global};
-use takings::{all_four, all_three, all_two};
 
 /// No `extern` and no `static`
 pub fn make_no_storage(stack: &mut Vec<Value>) -> Result<bool, AllocError>

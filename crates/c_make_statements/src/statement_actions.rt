@@ -2,21 +2,21 @@
 
 ghost use Rattle.std.specs.Prelude.{◌≡◌, IfOk, reverse};
 ghost use Rattle.c_tree.specs.Starts.{label_start};
-ghost use Rattle.c_values.specs.Values.{Fits};
+ghost use Rattle.c_stack.specs.Values.{Fits};
 ghost use Rattle.c_actions.specs.StatementActions.{after_add_group, after_add_label, after_add_local, after_add_statement, after_add_to_group, after_assert, after_assign, after_block, after_break, after_call, after_case, after_compound, after_continue, after_cprover_assert, after_cprover_assume, after_default, after_do, after_empty, after_first_label, after_for, after_for_local, after_for_nothing, after_for_simple, after_group, after_if_alone, after_if_else, after_labelled, after_no_groups, after_no_items, after_no_simple, after_return, after_simple, after_some_simple, after_step_after, after_step_before, after_switch, after_update, after_while};
 
-use c_tree::{Block, BlockItem, Call, ForFirst, Group, Label, Simple, Statement};
-use c_values::{
+use c_stack::{
     Labels, StatementValue, SwitchValue, Value, put, take_assignment_mark, take_block,
     take_expression, take_expression_option, take_expressions, take_for_first, take_group,
     take_groups, take_initializer, take_initializer_option, take_label, take_labelled, take_labels,
     take_local, take_name, take_parts, take_path, take_place, take_simple, take_simple_option,
     take_statement, take_step_mark,
 };
+use c_tree::{Block, BlockItem, Call, ForFirst, Group, Label, Simple, Statement};
 use sqlite_items::Items;
 use src_text::Place;
+use stack_parts::{all_five, all_four, all_three, all_two, boxed_with};
 use std::alloc::{AllocError, Global};
-use takings::{all_five, all_four, all_three, all_two, boxed_with};
 
 /// The place of a label's first token.
 fn label_start(label: &Label) -> Place

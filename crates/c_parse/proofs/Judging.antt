@@ -8,14 +8,14 @@ use Rattle.node_depth.specs.Weaves.{Look, woven}
 use Rattle.c_tokens.specs.Directives.{c_tokens}
 use Rattle.c_tokens.specs.declared.directives.CToken.{CToken}
 use Rattle.c_tree.specs.declared.file.CTree.{CTree}
-use Rattle.c_values.specs.declared.values.Value.TheVariants as value
-use Rattle.c_values.specs.declared.values.FileValue.TheVariants as file_value
+use Rattle.c_stack.specs.declared.values.Value.TheVariants as value
+use Rattle.c_stack.specs.declared.values.FileValue.TheVariants as file_value
 use Rattle.c_grammar.specs.declared.TheConstants.{WEAVES}
 use Rattle.c_actions.specs.Reading.{C, kinds_of, actions_of, built, place_of_token, BuildsTree, IsCSource}
 use Rattle.c_actions.proofs.Builds.{builds_tree}
 use Rattle.c_actions.proofs.Laws.{tree_law}
-use Rattle.c_looks.specs.Depth.{DeepAt}
-use Rattle.c_looks.proofs.Laws.{depth_law}
+use Rattle.c_depth.specs.Depth.{DeepAt}
+use Rattle.c_depth.proofs.Laws.{depth_law}
 use Rattle.c_parse.specs.declared.read.ParseEnd.{ParseEnd}
 use Rattle.c_parse.specs.declared.read.ParseEnd.TheVariants as ends
 use Rattle.c_parse.specs.Ends.{DEEPEST, AreSteps, HasTree, EndsAt, refusal_at}

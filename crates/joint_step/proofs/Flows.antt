@@ -19,8 +19,8 @@ use Rattle.joint_machine.specs.declared.machine.Way.{Way}
 use Rattle.joint_machine.specs.declared.machine.Way.TheVariants as way
 use Rattle.joint_machine.specs.Moments.{state_of, left_of, way_of, Halts, Shows, Does, IsKept, IsReady, from_here}
 use Rattle.joint_machine.proofs.Flow.{then_law, groups_law, then_passes, then_halts, halts_groups, nothing_done}
-use Rattle.joint_rows.specs.Lists.{after_items, after_option, after_cases, entered_case}
-use Rattle.joint_rows.proofs.Rows.{chosen, switched}
+use Rattle.joint_lists.specs.Lists.{after_items, after_option, after_cases, entered_case}
+use Rattle.joint_lists.proofs.Rows.{chosen, switched}
 use Rattle.joint_step.specs.Parts.{other_way}
 
 -- ---- the same stretch, and one that begins as another

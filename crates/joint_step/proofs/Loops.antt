@@ -16,8 +16,8 @@ use Rattle.joint_machine.specs.declared.machine.Way.{Way}
 use Rattle.joint_machine.specs.declared.machine.Way.TheVariants as way
 use Rattle.joint_machine.specs.Moments.{state_of, left_of, way_of, Halts, from_here}
 use Rattle.joint_machine.proofs.Flow.{turn_law, then_passes, then_halts, halts_turn, nothing_done}
-use Rattle.joint_rows.specs.Lists.{after_items, after_option}
-use Rattle.joint_rows.proofs.Rows.{after-loop}
+use Rattle.joint_lists.specs.Lists.{after_items, after_option}
+use Rattle.joint_lists.proofs.Rows.{after-loop}
 use Rattle.joint_step.specs.Parts.{turn_left, other_way, first_tested}
 use Rattle.joint_step.proofs.Flows.{is_there, way_or, then_leaves, passes_next}
 use Rattle.joint_step.proofs.Turns.{loop_turns}

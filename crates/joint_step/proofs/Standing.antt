@@ -10,8 +10,8 @@ use Rattle.joint_ir.specs.declared.stmt.TStmt.{TStmt}
 use Rattle.joint_ir.specs.declared.stmt.TLoop.{TLoop, out-TLoop}
 use Rattle.joint_ir.specs.WellFormed.{Scope, FitsStmt, FitsExpr, FitsOption, FitsLoop, with_scope_locals, declared_behind, in_a_switch}
 use Rattle.joint_machine.specs.Moments.{Stands}
-use Rattle.joint_rows.specs.Lists.{FitsItems, FitsOptional, FitsCases}
-use Rattle.joint_rows.proofs.Shapes.{fits-block, fits-if, fits-switch, fits-loop}
+use Rattle.joint_lists.specs.Lists.{FitsItems, FitsOptional, FitsCases}
+use Rattle.joint_lists.proofs.Shapes.{fits-block, fits-if, fits-switch, fits-loop}
 
 pub stands_as : (p : Pair) (here : ℕ) (F G : Scope → Type 0) → ((c : Scope) → F c → G c) → Stands p here F → Stands p here G
 stands_as p here F G h s = record { scope = s.scope; program = s.program; function = s.function; holds = h s.scope s.holds }

@@ -4,7 +4,7 @@ use Rattle.joint_ir.specs.declared.stmt.TLoop.{TLoop, out-TLoop}
 use Rattle.joint_ir.specs.Effects.{Onward}
 use Rattle.joint_ir.specs.Steps.{Setting, Calls, rows_in}
 use Rattle.joint_ir.specs.Statements.{after, turns, condition_value}
-use Rattle.joint_rows.specs.Lists.{after_option}
+use Rattle.joint_lists.specs.Lists.{after_option}
 
 abbrev pub loop_turns : Setting → Calls → TLoop → (n : ℕ) → Onward
 loop_turns k calls l n =

@@ -6,7 +6,7 @@ ghost use Rattle.joint_ir.specs.Statements.{after, after_loop};
 ghost use Rattle.joint_ir.specs.Types.{InRange, IsType};
 ghost use Rattle.joint_ir.specs.WellFormed.{IsWellFormed, FitsStmt, FitsTarget, FitsInit, FitsDeclare, FitsLoop, FitsCall};
 ghost use Rattle.joint_machine.specs.Moments.{Stands, IsReady};
-ghost use Rattle.joint_rows.specs.Lists.{after_items, after_option, after_cases, FitsItems, FitsOptional, FitsCases};
+ghost use Rattle.joint_lists.specs.Lists.{after_items, after_option, after_cases, FitsItems, FitsOptional, FitsCases};
 ghost use Rattle.joint_step.specs.Parts.{IsTaken};
 ghost use Rattle.joint_step.specs.Walks.{setting_of, DoesIn, PassesIn, FindsIn, GoesOn};
 
@@ -15,8 +15,8 @@ use crate::parts::{
     result_type, simple,
 };
 use joint_ir::{Group, IntType, Outcome, SNode, Slot, TCall, TInit, TLoop, TStmt, TTarget, lookup};
+use joint_lists::entry;
 use joint_machine::{Machine, Way};
-use joint_rows::entry;
 use joint_value::arith;
 use joint_view::Halt;
 use sqlite_items::Boxed;

@@ -16,11 +16,11 @@ use Rattle.c_actions.specs.Reading.{C, kinds_of, token_before, end_of, spelling,
 use Rattle.c_actions.specs.declared.actions.Action.{Action}
 use Rattle.c_actions.specs.declared.actions.TokenAction.{TokenAction}
 use Rattle.c_actions.specs.declared.actions.TokenAction.TheVariants as Read
-use Rattle.c_values.specs.Values.{Values}
-use Rattle.c_values.specs.declared.values.ExpressionValue.TheVariants as ExpressionValue
-use Rattle.c_values.specs.declared.values.FileValue.TheVariants as FileValue
-use Rattle.c_values.specs.declared.values.TokenValue.TheVariants as TokenValue
-use Rattle.c_values.specs.declared.values.Value.TheVariants as Value
+use Rattle.c_stack.specs.Values.{Values}
+use Rattle.c_stack.specs.declared.values.ExpressionValue.TheVariants as ExpressionValue
+use Rattle.c_stack.specs.declared.values.FileValue.TheVariants as FileValue
+use Rattle.c_stack.specs.declared.values.TokenValue.TheVariants as TokenValue
+use Rattle.c_stack.specs.declared.values.Value.TheVariants as Value
 use Rattle.c_grammar.specs.Table.{TABLE}
 use Rattle.c_grammar.specs.declared.TheConstants.{MARKS}
 use Rattle.c_grammar.proofs.Fit.{c_is_ll}

@@ -20,10 +20,10 @@ use Rattle.v_actions.specs.Tokens.{Lexemes, place_in, bytes_of, bytes_at, based_
 use Rattle.v_actions.specs.declared.actions.Action.{Action}
 use Rattle.v_actions.specs.declared.actions.TokenAction.{TokenAction}
 use Rattle.v_actions.specs.declared.actions.TokenAction.TheVariants as Read
-use Rattle.v_values.specs.Values.{Values}
-use Rattle.v_values.specs.declared.values.ModuleValue.TheVariants as ModuleValue
-use Rattle.v_values.specs.declared.values.TokenValue.TheVariants as TokenValue
-use Rattle.v_values.specs.declared.values.Value.{Value}
+use Rattle.v_stack.specs.Values.{Values}
+use Rattle.v_stack.specs.declared.values.ModuleValue.TheVariants as ModuleValue
+use Rattle.v_stack.specs.declared.values.TokenValue.TheVariants as TokenValue
+use Rattle.v_stack.specs.declared.values.Value.{Value}
 use Rattle.v_grammar.specs.Verilog.{VERILOG}
 use Rattle.v_grammar.specs.declared.TheConstants.{MARKS}
 use Rattle.v_grammar.proofs.Fit.{verilog_is_ll}

@@ -7,7 +7,7 @@ use Rattle.ll_actions.proofs.Typed.{next_step}
 use Rattle.v_actions.specs.Acts.{act, built}
 use Rattle.v_actions.specs.Numbers.{action_of}
 use Rattle.v_actions.specs.Tokens.{Lexemes}
-use Rattle.v_values.specs.Values.{Values}
+use Rattle.v_stack.specs.Values.{Values}
 use Rattle.v_actions.specs.Sorts.{sorts_of}
 use Rattle.v_actions.specs.Reading.{V, kinds_of, tokens_in, lexemes, actions_of, BuildsTree}
 use Rattle.v_actions.proofs.Tops.{one_tree}

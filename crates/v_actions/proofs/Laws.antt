@@ -1,8 +1,8 @@
 -- A text whose tokens have a derivation has one tree.
 use Rattle.std.proofs.Common.{◌≡◌, [], ◌∷◌, Some, sym, ◌∙◌, ap}
 use Rattle.v_tree.specs.declared.item.VTree.{VTree}
-use Rattle.v_values.specs.declared.values.ModuleValue.TheVariants as ModuleValue
-use Rattle.v_values.specs.declared.values.Value.TheVariants as Value
+use Rattle.v_stack.specs.declared.values.ModuleValue.TheVariants as ModuleValue
+use Rattle.v_stack.specs.declared.values.Value.TheVariants as Value
 use Rattle.v_grammar.specs.Verilog.{VERILOG}
 use Rattle.v_grammar.proofs.Fit.{verilog_is_ll}
 use Rattle.v_actions.specs.Acts.{built}

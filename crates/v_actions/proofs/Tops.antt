@@ -29,16 +29,16 @@ use Rattle.v_tree.specs.declared.expr.Selection.{Selection}
 use Rattle.v_tree.specs.declared.stmt.Stmt.{Stmt}
 use Rattle.v_tree.specs.declared.stmt.Target.{Target}
 use Rattle.v_tree.specs.declared.expr.UnaryOperator.{UnaryOperator}
-use Rattle.v_values.specs.declared.values.Value.TheVariants as Value
-use Rattle.v_values.specs.declared.values.TokenValue.TheVariants as TokenValue
-use Rattle.v_values.specs.declared.values.ExprValue.TheVariants as ExprValue
-use Rattle.v_values.specs.declared.values.StmtValue.TheVariants as StmtValue
-use Rattle.v_values.specs.declared.values.DeclareValue.TheVariants as DeclareValue
-use Rattle.v_values.specs.declared.values.NamesValue.TheVariants as NamesValue
-use Rattle.v_values.specs.declared.values.ConnectValue.TheVariants as ConnectValue
-use Rattle.v_values.specs.declared.values.PartValue.TheVariants as PartValue
-use Rattle.v_values.specs.declared.values.ModuleValue.TheVariants as ModuleValue
-use Rattle.v_values.specs.Values.{Values, Goes, with_place, with_name, with_declared, with_unary_operator, with_binary_operator, with_decimal, with_based, with_direction, with_expr, with_exprs, with_expr_option, with_selection, with_range, with_range_option, with_target, with_targets, with_assignment_kind, with_label, with_stmt, with_stmts, with_case_item, with_case_items, with_sign, with_net_kind, with_parameter_range, with_parameter, with_parameters, with_groups, with_names, with_declared_names, with_declarator, with_declarators, with_register, with_registers, with_ordered, with_ordered_values, with_named, with_named_values, with_connections, with_overrides, with_instance, with_instances, with_net_assignment, with_net_assignments, with_event, with_ports, with_header, with_item, with_items, with_module, with_modules}
+use Rattle.v_stack.specs.declared.values.Value.TheVariants as Value
+use Rattle.v_stack.specs.declared.values.TokenValue.TheVariants as TokenValue
+use Rattle.v_stack.specs.declared.values.ExprValue.TheVariants as ExprValue
+use Rattle.v_stack.specs.declared.values.StmtValue.TheVariants as StmtValue
+use Rattle.v_stack.specs.declared.values.DeclareValue.TheVariants as DeclareValue
+use Rattle.v_stack.specs.declared.values.NamesValue.TheVariants as NamesValue
+use Rattle.v_stack.specs.declared.values.ConnectValue.TheVariants as ConnectValue
+use Rattle.v_stack.specs.declared.values.PartValue.TheVariants as PartValue
+use Rattle.v_stack.specs.declared.values.ModuleValue.TheVariants as ModuleValue
+use Rattle.v_stack.specs.Values.{Values, Goes, with_place, with_name, with_declared, with_unary_operator, with_binary_operator, with_decimal, with_based, with_direction, with_expr, with_exprs, with_expr_option, with_selection, with_range, with_range_option, with_target, with_targets, with_assignment_kind, with_label, with_stmt, with_stmts, with_case_item, with_case_items, with_sign, with_net_kind, with_parameter_range, with_parameter, with_parameters, with_groups, with_names, with_declared_names, with_declarator, with_declarators, with_register, with_registers, with_ordered, with_ordered_values, with_named, with_named_values, with_connections, with_overrides, with_instance, with_instances, with_net_assignment, with_net_assignments, with_event, with_ports, with_header, with_item, with_items, with_module, with_modules}
 use Rattle.v_actions.specs.Sorts.{sorts_of}
 use Rattle.v_actions.specs.Reading.{BuildsTree}
 

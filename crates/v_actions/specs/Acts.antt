@@ -9,7 +9,7 @@ use Rattle.v_actions.specs.Module.{module_act}
 use Rattle.v_actions.specs.Numbers.{action_of}
 use Rattle.v_actions.specs.Stmt.{stmt_act}
 use Rattle.v_actions.specs.Tokens.{Lexemes, token_value}
-use Rattle.v_values.specs.Values.{Values}
+use Rattle.v_stack.specs.Values.{Values}
 
 -- an action with i tokens before it; one that reads a token reads the one right before
 abbrev pub action_act : Lexemes → Action → ℕ → Values → Option Values

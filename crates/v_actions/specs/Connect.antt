@@ -1,11 +1,11 @@
 -- Connections, continuous assignments and events: what each action makes of the stack. The last part is taken first.
 use Rattle.std.specs.Prelude.{[], ◌∷◌, ◌++◌, Option, Some, None}
-use Rattle.v_values.specs.declared.values.Value.TheVariants as Value
-use Rattle.v_values.specs.declared.values.ConnectValue.TheVariants as ConnectValue
-use Rattle.v_values.specs.declared.values.PartValue.TheVariants as PartValue
+use Rattle.v_stack.specs.declared.values.Value.TheVariants as Value
+use Rattle.v_stack.specs.declared.values.ConnectValue.TheVariants as ConnectValue
+use Rattle.v_stack.specs.declared.values.PartValue.TheVariants as PartValue
 use Rattle.v_actions.specs.declared.actions.ConnectAction.{ConnectAction}
 use Rattle.v_actions.specs.declared.actions.ConnectAction.TheVariants as action
-use Rattle.v_values.specs.Values.{Values, with_connections, with_expr, with_expr_option, with_instance, with_instances, with_name, with_named, with_named_values, with_names, with_net_assignment, with_net_assignments, with_ordered, with_ordered_values, with_place, with_target}
+use Rattle.v_stack.specs.Values.{Values, with_connections, with_expr, with_expr_option, with_instance, with_instances, with_name, with_named, with_named_values, with_names, with_net_assignment, with_net_assignments, with_ordered, with_ordered_values, with_place, with_target}
 use Rattle.v_tree.specs.declared.item.Connections.TheVariants as Connections
 use Rattle.v_tree.specs.declared.item.Event.TheVariants as Event
 

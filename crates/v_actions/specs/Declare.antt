@@ -1,12 +1,12 @@
 -- What declarations are made of: what each action makes of the stack. The last part is taken first.
 use Rattle.std.specs.Prelude.{true, false, [], ◌∷◌, ◌++◌, Option, Some, None}
-use Rattle.v_values.specs.declared.values.Value.TheVariants as Value
-use Rattle.v_values.specs.declared.values.DeclareValue.TheVariants as DeclareValue
-use Rattle.v_values.specs.declared.values.ExprValue.TheVariants as ExprValue
-use Rattle.v_values.specs.declared.values.NamesValue.TheVariants as NamesValue
+use Rattle.v_stack.specs.declared.values.Value.TheVariants as Value
+use Rattle.v_stack.specs.declared.values.DeclareValue.TheVariants as DeclareValue
+use Rattle.v_stack.specs.declared.values.ExprValue.TheVariants as ExprValue
+use Rattle.v_stack.specs.declared.values.NamesValue.TheVariants as NamesValue
 use Rattle.v_actions.specs.declared.actions.DeclareAction.{DeclareAction}
 use Rattle.v_actions.specs.declared.actions.DeclareAction.TheVariants as action
-use Rattle.v_values.specs.Values.{Values, with_declarator, with_declarators, with_declared, with_declared_names, with_expr, with_expr_option, with_name, with_names, with_parameter, with_parameters, with_place, with_range, with_register, with_registers}
+use Rattle.v_stack.specs.Values.{Values, with_declarator, with_declarators, with_declared, with_declared_names, with_expr, with_expr_option, with_name, with_names, with_parameter, with_parameters, with_place, with_range, with_register, with_registers}
 use Rattle.v_tree.specs.declared.item.NetKind.TheVariants as NetKind
 use Rattle.v_tree.specs.declared.item.RegisterForm.TheVariants as RegisterForm
 

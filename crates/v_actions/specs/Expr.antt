@@ -1,10 +1,10 @@
 -- Expressions and the selects in them: what each action makes of the stack. The last part is taken first.
 use Rattle.std.specs.Prelude.{[], ◌∷◌, ◌++◌, Option, Some, None}
-use Rattle.v_values.specs.declared.values.Value.TheVariants as Value
-use Rattle.v_values.specs.declared.values.ExprValue.TheVariants as ExprValue
+use Rattle.v_stack.specs.declared.values.Value.TheVariants as Value
+use Rattle.v_stack.specs.declared.values.ExprValue.TheVariants as ExprValue
 use Rattle.v_actions.specs.declared.actions.ExprAction.{ExprAction}
 use Rattle.v_actions.specs.declared.actions.ExprAction.TheVariants as action
-use Rattle.v_values.specs.Values.{Values, with_based, with_binary_operator, with_decimal, with_expr, with_exprs, with_name, with_place, with_selection, with_unary_operator}
+use Rattle.v_stack.specs.Values.{Values, with_based, with_binary_operator, with_decimal, with_expr, with_exprs, with_name, with_place, with_selection, with_unary_operator}
 use Rattle.v_tree.specs.declared.expr.Expr.TheVariants as Expr
 use Rattle.v_tree.specs.declared.expr.Literal.TheVariants as Literal
 use Rattle.v_tree.specs.declared.expr.Selection.TheVariants as Selection

@@ -1,11 +1,11 @@
 -- Items, headers and modules: what each action makes of the stack. The last part is taken first.
 use Rattle.std.specs.Prelude.{[], ◌∷◌, ◌++◌, Option, Some}
-use Rattle.v_values.specs.declared.values.Value.TheVariants as Value
-use Rattle.v_values.specs.declared.values.DeclareValue.TheVariants as DeclareValue
-use Rattle.v_values.specs.declared.values.ModuleValue.TheVariants as ModuleValue
+use Rattle.v_stack.specs.declared.values.Value.TheVariants as Value
+use Rattle.v_stack.specs.declared.values.DeclareValue.TheVariants as DeclareValue
+use Rattle.v_stack.specs.declared.values.ModuleValue.TheVariants as ModuleValue
 use Rattle.v_actions.specs.declared.actions.ModuleAction.{ModuleAction}
 use Rattle.v_actions.specs.declared.actions.ModuleAction.TheVariants as action
-use Rattle.v_values.specs.Values.{Values, with_declarators, with_declared_names, with_direction, with_event, with_groups, with_header, with_instances, with_item, with_items, with_module, with_modules, with_name, with_names, with_net_assignments, with_net_kind, with_overrides, with_parameter_range, with_parameters, with_place, with_ports, with_range_option, with_registers, with_sign, with_stmt}
+use Rattle.v_stack.specs.Values.{Values, with_declarators, with_declared_names, with_direction, with_event, with_groups, with_header, with_instances, with_item, with_items, with_module, with_modules, with_name, with_names, with_net_assignments, with_net_kind, with_overrides, with_parameter_range, with_parameters, with_place, with_ports, with_range_option, with_registers, with_sign, with_stmt}
 use Rattle.v_tree.specs.declared.item.Header.TheVariants as Header
 use Rattle.v_tree.specs.declared.item.Item.TheVariants as Item
 

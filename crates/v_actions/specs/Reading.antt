@@ -11,9 +11,9 @@ use Rattle.text_scan.specs.declared.scanner.Token.{Token}
 use Rattle.text_scan.specs.Tokens.{tokens_of}
 use Rattle.v_actions.specs.Acts.{built}
 use Rattle.v_actions.specs.Tokens.{Lexemes}
-use Rattle.v_values.specs.Values.{Values}
-use Rattle.v_values.specs.declared.values.ModuleValue.TheVariants as ModuleValue
-use Rattle.v_values.specs.declared.values.Value.TheVariants as Value
+use Rattle.v_stack.specs.Values.{Values}
+use Rattle.v_stack.specs.declared.values.ModuleValue.TheVariants as ModuleValue
+use Rattle.v_stack.specs.declared.values.Value.TheVariants as Value
 use Rattle.v_grammar.specs.Verilog.{VERILOG}
 use Rattle.v_grammar.specs.declared.TheConstants.{MARKS}
 use Rattle.v_tokens.specs.Rules.{kind_of, is_blank_line}

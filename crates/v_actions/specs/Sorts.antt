@@ -1,15 +1,15 @@
 -- The sort of each value, by the numbers that the grammar's actions have.
 use Rattle.std.specs.Prelude.{ℕ, List, map}
-use Rattle.v_values.specs.declared.values.Value.{Value}
-use Rattle.v_values.specs.declared.values.TokenValue.TheVariants as TokenValue
-use Rattle.v_values.specs.declared.values.ExprValue.TheVariants as ExprValue
-use Rattle.v_values.specs.declared.values.StmtValue.TheVariants as StmtValue
-use Rattle.v_values.specs.declared.values.DeclareValue.TheVariants as DeclareValue
-use Rattle.v_values.specs.declared.values.NamesValue.TheVariants as NamesValue
-use Rattle.v_values.specs.declared.values.ConnectValue.TheVariants as ConnectValue
-use Rattle.v_values.specs.declared.values.PartValue.TheVariants as PartValue
-use Rattle.v_values.specs.declared.values.ModuleValue.TheVariants as ModuleValue
-use Rattle.v_values.specs.Values.{Values}
+use Rattle.v_stack.specs.declared.values.Value.{Value}
+use Rattle.v_stack.specs.declared.values.TokenValue.TheVariants as TokenValue
+use Rattle.v_stack.specs.declared.values.ExprValue.TheVariants as ExprValue
+use Rattle.v_stack.specs.declared.values.StmtValue.TheVariants as StmtValue
+use Rattle.v_stack.specs.declared.values.DeclareValue.TheVariants as DeclareValue
+use Rattle.v_stack.specs.declared.values.NamesValue.TheVariants as NamesValue
+use Rattle.v_stack.specs.declared.values.ConnectValue.TheVariants as ConnectValue
+use Rattle.v_stack.specs.declared.values.PartValue.TheVariants as PartValue
+use Rattle.v_stack.specs.declared.values.ModuleValue.TheVariants as ModuleValue
+use Rattle.v_stack.specs.Values.{Values}
 
 abbrev pub sort_of : Value → ℕ
 sort_of (Value.Token (TokenValue.Place x)) = 1

@@ -1,10 +1,10 @@
 -- Statements and the targets of assignments: what each action makes of the stack. The last part is taken first.
 use Rattle.std.specs.Prelude.{[], ◌∷◌, ◌++◌, Option, Some, None}
-use Rattle.v_values.specs.declared.values.Value.TheVariants as Value
-use Rattle.v_values.specs.declared.values.StmtValue.TheVariants as StmtValue
+use Rattle.v_stack.specs.declared.values.Value.TheVariants as Value
+use Rattle.v_stack.specs.declared.values.StmtValue.TheVariants as StmtValue
 use Rattle.v_actions.specs.declared.actions.StmtAction.{StmtAction}
 use Rattle.v_actions.specs.declared.actions.StmtAction.TheVariants as action
-use Rattle.v_values.specs.Values.{Values, with_assignment_kind, with_case_item, with_case_items, with_expr, with_exprs, with_label, with_name, with_place, with_selection, with_stmt, with_stmts, with_target, with_targets}
+use Rattle.v_stack.specs.Values.{Values, with_assignment_kind, with_case_item, with_case_items, with_expr, with_exprs, with_label, with_name, with_place, with_selection, with_stmt, with_stmts, with_target, with_targets}
 use Rattle.v_tree.specs.declared.stmt.AssignmentKind.TheVariants as AssignmentKind
 use Rattle.v_tree.specs.declared.stmt.CaseItem.TheVariants as CaseItem
 use Rattle.v_tree.specs.declared.stmt.CaseKind.TheVariants as CaseKind

@@ -6,8 +6,8 @@ use Rattle.text_scan.specs.declared.scanner.Token.{Token}
 use Rattle.text_scan.specs.Words.{run_len}
 use Rattle.v_actions.specs.declared.actions.TokenAction.{TokenAction}
 use Rattle.v_actions.specs.declared.actions.TokenAction.TheVariants as Action
-use Rattle.v_values.specs.declared.values.TokenValue.TheVariants as TokenValue
-use Rattle.v_values.specs.declared.values.Value.{Value}
+use Rattle.v_stack.specs.declared.values.TokenValue.TheVariants as TokenValue
+use Rattle.v_stack.specs.declared.values.Value.{Value}
 use Rattle.v_tokens.specs.Rules.{is_sign, is_space, is_base_ten}
 use Rattle.v_tree.specs.declared.expr.Base.{Base}
 use Rattle.v_tree.specs.declared.expr.BasedNumber.{BasedNumber}

@@ -1,9 +1,9 @@
 -- The tree that is taken off the stack at the end.
 use Rattle.std.proofs.Common.{◌≡◌, [], ◌∷◌, Option, Some, None, sym, ap, ◌∙◌}
 use Rattle.v_tree.specs.declared.item.VTree.{VTree}
-use Rattle.v_values.specs.Values.{Values, Goes, with_source}
-use Rattle.v_values.specs.declared.values.Value.TheVariants as value
-use Rattle.v_values.specs.declared.values.ModuleValue.TheVariants as module_value
+use Rattle.v_stack.specs.Values.{Values, Goes, with_source}
+use Rattle.v_stack.specs.declared.values.Value.TheVariants as value
+use Rattle.v_stack.specs.declared.values.ModuleValue.TheVariants as module_value
 use Rattle.v_actions.specs.Reading.{BuildsTree}
 
 nothing : (o : Option Values) → BuildsTree o → None ≡ o → ⊥

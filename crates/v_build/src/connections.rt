@@ -1,7 +1,7 @@
 //! Actions of connections, continuous assignments and events (IEEE 1364-2005, 6.1, 9.7 and 12.3).
 
 ghost use Rattle.std.specs.Prelude.{IfOk, reverse};
-ghost use Rattle.v_values.specs.Values.{Fits};
+ghost use Rattle.v_stack.specs.Values.{Fits};
 ghost use Rattle.v_actions.specs.Connect.{connect_act};
 
 use std::alloc::{AllocError, Global};
@@ -13,7 +13,7 @@ use v_make_statements::{
     make_no_ordered, make_no_overrides, make_ordered, make_ordered_connections, make_posedge_event,
     make_some_overrides,
 };
-use v_values::Value;
+use v_stack::Value;
 
 /// Makes a connection, a continuous assignment or an event.
 pub fn act_connect(

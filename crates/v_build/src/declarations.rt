@@ -1,7 +1,7 @@
 //! Actions of parts of declarations (IEEE 1364-2005, clause 4 and Annex A.2).
 
 ghost use Rattle.std.specs.Prelude.{IfOk, reverse};
-ghost use Rattle.v_values.specs.Values.{Fits};
+ghost use Rattle.v_stack.specs.Values.{Fits};
 ghost use Rattle.v_actions.specs.Declare.{declare_act};
 
 use std::alloc::{AllocError, Global};
@@ -13,7 +13,7 @@ use v_make_declarations::{
     make_no_registers, make_parameter, make_plain_range, make_plain_register, make_range,
     make_reg_kind, make_signed, make_signed_range, make_some_range, make_unsigned, make_wire_kind,
 };
-use v_values::Value;
+use v_stack::Value;
 
 /// Makes a part of a declaration.
 pub fn act_declare(

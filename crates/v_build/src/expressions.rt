@@ -1,7 +1,7 @@
 //! Actions of expressions (IEEE 1364-2005, clause 5).
 
 ghost use Rattle.std.specs.Prelude.{IfOk, reverse};
-ghost use Rattle.v_values.specs.Values.{Fits};
+ghost use Rattle.v_stack.specs.Values.{Fits};
 ghost use Rattle.v_actions.specs.Expr.{expr_act};
 
 use std::alloc::{AllocError, Global};
@@ -13,7 +13,7 @@ use v_make_expressions::{
     make_replication, make_select, make_signed_call, make_sized_literal, make_some_expr,
     make_unary, make_unsigned_call, make_up_selection,
 };
-use v_values::Value;
+use v_stack::Value;
 
 /// Makes an expression or a select.
 pub fn act_expr(

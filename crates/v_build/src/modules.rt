@@ -1,7 +1,7 @@
 //! Actions of items, headers and modules (IEEE 1364-2005, clause 12).
 
 ghost use Rattle.std.specs.Prelude.{IfOk, reverse};
-ghost use Rattle.v_values.specs.Values.{Fits};
+ghost use Rattle.v_stack.specs.Values.{Fits};
 ghost use Rattle.v_actions.specs.Module.{module_act};
 
 use std::alloc::{AllocError, Global};
@@ -13,7 +13,7 @@ use v_make_declarations::{
     make_module, make_net_item, make_no_groups, make_no_items, make_no_modules, make_no_ports,
     make_parameter_item, make_port_item, make_reg_item, make_source,
 };
-use v_values::Value;
+use v_stack::Value;
 
 /// Makes an item, a header or a module.
 pub fn act_module(

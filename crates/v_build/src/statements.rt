@@ -1,7 +1,7 @@
 //! Actions of statements (IEEE 1364-2005, clause 9).
 
 ghost use Rattle.std.specs.Prelude.{IfOk, reverse};
-ghost use Rattle.v_values.specs.Values.{Fits};
+ghost use Rattle.v_stack.specs.Values.{Fits};
 ghost use Rattle.v_actions.specs.Stmt.{stmt_act};
 
 use std::alloc::{AllocError, Global};
@@ -13,7 +13,7 @@ use v_make_statements::{
     make_some_label, make_target_concatenation, make_target_name, make_target_select,
     make_values_item,
 };
-use v_values::Value;
+use v_stack::Value;
 
 /// Makes a statement or a target.
 pub fn act_stmt(

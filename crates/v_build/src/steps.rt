@@ -3,9 +3,9 @@
 ghost use Rattle.std.specs.Prelude.{◌≡◌, ◌+◌, ◌^◌, ◌<◌, [], ◌∷◌, IfOk, Some, length, map, reverse};
 ghost use Rattle.std.specs.List.{All};
 ghost use Rattle.text_scan.specs.declared.scanner.Token.{Token};
-ghost use Rattle.v_values.specs.Values.{Fits};
-ghost use Rattle.v_values.specs.declared.values.Value.TheVariants as value;
-ghost use Rattle.v_values.specs.declared.values.ModuleValue.TheVariants as module_value;
+ghost use Rattle.v_stack.specs.Values.{Fits};
+ghost use Rattle.v_stack.specs.declared.values.Value.TheVariants as value;
+ghost use Rattle.v_stack.specs.declared.values.ModuleValue.TheVariants as module_value;
 ghost use Rattle.v_actions.specs.Acts.{act, action_act, built};
 ghost use Rattle.v_actions.specs.Reading.{BuildsTree, places_of};
 ghost use Rattle.v_actions.specs.declared.actions.Action.TheVariants as action_of_kind;
@@ -22,8 +22,8 @@ use std::alloc::{AllocError, Global};
 use text_scan::Token;
 use v_actions::{Action, TokenAction, action_of};
 use v_make_expressions::token_value;
+use v_stack::{Value, put, take_source};
 use v_tree::VTree;
-use v_values::{Value, put, take_source};
 
 /// A text with its tokens and the place of each.
 #[derive(Clone, Copy)]

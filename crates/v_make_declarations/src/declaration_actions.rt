@@ -3,18 +3,18 @@
 ghost use Rattle.std.specs.Prelude.{IfOk, reverse};
 ghost use Rattle.v_actions.specs.Declare.{declare_act};
 ghost use Rattle.v_actions.specs.declared.actions.DeclareAction.TheVariants as DeclareAction;
-ghost use Rattle.v_values.specs.Values.{Fits};
+ghost use Rattle.v_stack.specs.Values.{Fits};
 
 use sqlite_items::Items;
+use stack_parts::{all_three, all_two};
 use std::alloc::{AllocError, Global};
-use takings::{all_three, all_two};
-use v_tree::{
-    Declarator, NetKind, ParameterAssignment, ParameterRange, Range, Register, RegisterForm,
-};
-use v_values::{
+use v_stack::{
     DeclareValue, ExprValue, NamesValue, Value, put, take_declarator, take_declarators,
     take_declared, take_declared_names, take_expr, take_expr_option, take_name, take_names,
     take_parameter, take_parameters, take_place, take_range, take_register, take_registers,
+};
+use v_tree::{
+    Declarator, NetKind, ParameterAssignment, ParameterRange, Range, Register, RegisterForm,
 };
 
 /// `[ high : low ]`

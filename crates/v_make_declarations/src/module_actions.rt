@@ -3,22 +3,22 @@
 ghost use Rattle.std.specs.Prelude.{IfOk, reverse};
 ghost use Rattle.v_actions.specs.Module.{module_act};
 ghost use Rattle.v_actions.specs.declared.actions.ModuleAction.TheVariants as ModuleAction;
-ghost use Rattle.v_values.specs.Values.{Fits};
+ghost use Rattle.v_stack.specs.Values.{Fits};
 
 use sqlite_items::Items;
+use stack_parts::{all_five, all_four, all_six, all_three, all_two};
 use std::alloc::{AllocError, Global};
-use takings::{all_five, all_four, all_six, all_three, all_two};
-use v_tree::{
-    AlwaysConstruct, ContinuousAssign, Header, IntegerDeclaration, Item, Module,
-    ModuleInstantiation, NetDeclaration, ParameterDeclaration, Port, PortDeclaration,
-    RegDeclaration, VTree,
-};
-use v_values::{
+use v_stack::{
     DeclareValue, ModuleValue, Value, put, take_declarators, take_declared_names, take_direction,
     take_event, take_groups, take_header, take_instances, take_item, take_items, take_module,
     take_modules, take_name, take_names, take_net_assignments, take_net_kind, take_overrides,
     take_parameter_range, take_parameters, take_place, take_ports, take_range_option,
     take_registers, take_sign, take_stmt,
+};
+use v_tree::{
+    AlwaysConstruct, ContinuousAssign, Header, IntegerDeclaration, Item, Module,
+    ModuleInstantiation, NetDeclaration, ParameterDeclaration, Port, PortDeclaration,
+    RegDeclaration, VTree,
 };
 
 /// `input ..;`

@@ -3,16 +3,16 @@
 ghost use Rattle.std.specs.Prelude.{IfOk, reverse};
 ghost use Rattle.v_actions.specs.Expr.{expr_act};
 ghost use Rattle.v_actions.specs.declared.actions.ExprAction.TheVariants as ExprAction;
-ghost use Rattle.v_values.specs.Values.{Fits};
+ghost use Rattle.v_stack.specs.Values.{Fits};
 
 use sqlite_items::{Boxed, Items};
+use stack_parts::{all_three, all_two, boxed_three, boxed_two, boxed_with};
 use std::alloc::{AllocError, Global};
-use takings::{all_three, all_two, boxed_three, boxed_two, boxed_with};
-use v_tree::{Expr, Literal, Selection};
-use v_values::{
+use v_stack::{
     ExprValue, Value, put, take_based, take_binary_operator, take_decimal, take_expr, take_exprs,
     take_name, take_place, take_selection, take_unary_operator,
 };
+use v_tree::{Expr, Literal, Selection};
 
 /// `12`
 pub fn make_decimal_literal(stack: &mut Vec<Value>) -> Result<bool, AllocError>

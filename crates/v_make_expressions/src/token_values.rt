@@ -9,8 +9,8 @@ use src_text::Place;
 use std::alloc::{AllocError, Global};
 use text_scan::Token;
 use v_actions::TokenAction;
+use v_stack::{TokenValue, Value};
 use v_tree::{BinaryOperator, DecimalNumber, Direction, Identifier, UnaryOperator};
-use v_values::{TokenValue, Value};
 
 fn place_in(places: &[Place], at: usize) -> Place
     ensures { result ≡ place_in places.now at }

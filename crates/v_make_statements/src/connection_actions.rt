@@ -3,18 +3,18 @@
 ghost use Rattle.std.specs.Prelude.{IfOk, reverse};
 ghost use Rattle.v_actions.specs.Connect.{connect_act};
 ghost use Rattle.v_actions.specs.declared.actions.ConnectAction.TheVariants as ConnectAction;
-ghost use Rattle.v_values.specs.Values.{Fits};
+ghost use Rattle.v_stack.specs.Values.{Fits};
 
 use sqlite_items::Items;
+use stack_parts::{all_three, all_two};
 use std::alloc::{AllocError, Global};
-use takings::{all_three, all_two};
-use v_tree::{Connections, Event, Instance, NamedConnection, NetAssignment};
-use v_values::{
+use v_stack::{
     ConnectValue, PartValue, Value, put, take_connections, take_expr, take_expr_option,
     take_instance, take_instances, take_name, take_named, take_named_values, take_names,
     take_net_assignment, take_net_assignments, take_ordered, take_ordered_values, take_place,
     take_target,
 };
+use v_tree::{Connections, Event, Instance, NamedConnection, NetAssignment};
 
 /// A connection by position.
 pub fn make_ordered(stack: &mut Vec<Value>) -> Result<bool, AllocError>

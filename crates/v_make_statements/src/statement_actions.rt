@@ -3,18 +3,18 @@
 ghost use Rattle.std.specs.Prelude.{IfOk, reverse};
 ghost use Rattle.v_actions.specs.Stmt.{stmt_act};
 ghost use Rattle.v_actions.specs.declared.actions.StmtAction.TheVariants as StmtAction;
-ghost use Rattle.v_values.specs.Values.{Fits};
+ghost use Rattle.v_stack.specs.Values.{Fits};
 
 use sqlite_items::{Boxed, Items};
+use stack_parts::{all_four, all_seven, all_three, all_two, boxed_with};
 use std::alloc::{AllocError, Global};
-use takings::{all_four, all_seven, all_three, all_two, boxed_with};
-use v_tree::{
-    Assignment, AssignmentKind, CaseItem, CaseKind, ForHead, LoopAssignment, Stmt, Target,
-};
-use v_values::{
+use v_stack::{
     StmtValue, Value, put, take_assignment_kind, take_case_item, take_case_items, take_expr,
     take_exprs, take_label, take_name, take_place, take_selection, take_stmt, take_stmts,
     take_target, take_targets,
+};
+use v_tree::{
+    Assignment, AssignmentKind, CaseItem, CaseKind, ForHead, LoopAssignment, Stmt, Target,
 };
 
 /// `name`

@@ -7,16 +7,16 @@ use Rattle.node_depth.specs.Nodes.{count, Deep}
 use Rattle.node_depth.specs.Weaves.{Look, woven}
 use Rattle.text_scan.specs.declared.scanner.Token.{Token}
 use Rattle.v_tree.specs.declared.item.VTree.{VTree}
-use Rattle.v_values.specs.declared.values.Value.TheVariants as value
-use Rattle.v_values.specs.declared.values.ModuleValue.TheVariants as module_value
+use Rattle.v_stack.specs.declared.values.Value.TheVariants as value
+use Rattle.v_stack.specs.declared.values.ModuleValue.TheVariants as module_value
 use Rattle.v_grammar.specs.declared.TheConstants.{WEAVES}
 use Rattle.v_actions.specs.Acts.{built}
 use Rattle.v_actions.specs.Reading.{V, kinds_of, tokens_in, lexemes, actions_of, BuildsTree, IsVerilogSource}
 use Rattle.v_actions.proofs.Builds.{builds_tree}
 use Rattle.v_actions.proofs.Laws.{tree_law}
 use Rattle.v_build.specs.Sources.{read_as}
-use Rattle.v_looks.specs.Depth.{place_of_token, DeepAt}
-use Rattle.v_looks.proofs.Laws.{depth_law}
+use Rattle.v_depth.specs.Depth.{place_of_token, DeepAt}
+use Rattle.v_depth.proofs.Laws.{depth_law}
 use Rattle.v_parse.specs.declared.read.ParseEnd.{ParseEnd}
 use Rattle.v_parse.specs.declared.read.ParseEnd.TheVariants as ends
 use Rattle.v_parse.specs.Ends.{DEEPEST, AreSteps, HasTree, EndsAt, refusal_at}

@@ -11,7 +11,7 @@ use Rattle.text_scan.specs.declared.scanner.Token.{Token}
 use Rattle.v_tree.specs.declared.item.VTree.{VTree}
 use Rattle.v_tree.specs.Nodes.{height}
 use Rattle.v_actions.specs.Reading.{V, kinds_of, tokens_in, actions_of, IsVerilogSource}
-use Rattle.v_looks.specs.Depth.{place_of_token, IsDeepAt}
+use Rattle.v_depth.specs.Depth.{place_of_token, IsDeepAt}
 use Rattle.v_parse.specs.declared.read.ParseEnd.{ParseEnd}
 use Rattle.v_parse.specs.declared.read.ParseEnd.TheVariants as ends
 

@@ -4,7 +4,7 @@ ghost use Rattle.std.specs.Prelude.{◌≡◌, ◌+◌, ◌^◌, ◌<◌, ◌≤
 ghost use Rattle.std.specs.List.{All};
 ghost use Rattle.v_actions.specs.Reading.{tokens_in};
 ghost use Rattle.v_build.specs.Sources.{IsInside};
-ghost use Rattle.v_looks.specs.Depth.{place_of_token};
+ghost use Rattle.v_depth.specs.Depth.{place_of_token};
 
 use src_text::{Place, place_of};
 use std::alloc::{AllocError, Global};

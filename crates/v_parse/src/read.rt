@@ -5,7 +5,7 @@ ghost use Rattle.std.specs.List.{All};
 ghost use Rattle.v_actions.specs.Reading.{tokens_in};
 ghost use Rattle.v_parse.specs.declared.read.ParseEnd.TheVariants as ends;
 ghost use Rattle.v_build.specs.Sources.{IsInside};
-ghost use Rattle.v_looks.specs.Depth.{place_of_token};
+ghost use Rattle.v_depth.specs.Depth.{place_of_token};
 ghost use Rattle.v_parse.specs.Ends.{AreSteps, EndsAt, HasTree, refusal_at};
 
 use crate::lexemes::{place_of_token, tokens_in};

@@ -1,5 +1,5 @@
 use Rattle.std.proofs.Common.{IfOk, reverse, subst, ◌∙◌}
-use Rattle.c_values.specs.Values.{Fits}
+use Rattle.c_stack.specs.Values.{Fits}
 use Rattle.c_build.proofs.Spots.{place_of_before, same_step}
 use Rattle.c_build.proofs.steps.act_step.Goals as goal
 

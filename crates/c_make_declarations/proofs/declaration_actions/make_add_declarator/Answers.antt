@@ -1,8 +1,8 @@
 use Rattle.std.proofs.Common.{◌≡◌, [], ◌∷◌, ◌++◌, Some, None, reverse, sym, ◌∙◌}
-use Rattle.takings.proofs.Takings.{two_found, two_lost}
-use Rattle.c_values.specs.Values.{with_declarator, with_declarators}
-use Rattle.c_values.specs.declared.values.Value.TheVariants as value
-use Rattle.c_values.specs.declared.values.DeclarationValue.TheVariants as declaration_value
+use Rattle.stack_parts.proofs.Takings.{two_found, two_lost}
+use Rattle.c_stack.specs.Values.{with_declarator, with_declarators}
+use Rattle.c_stack.specs.declared.values.Value.TheVariants as value
+use Rattle.c_stack.specs.declared.values.DeclarationValue.TheVariants as declaration_value
 use Rattle.c_make_declarations.proofs.declaration_actions.make_add_declarator.Goals as goal
 
 pub returns-in_default : goal.returns-in_default

@@ -1,9 +1,9 @@
 use Rattle.std.proofs.Common.{◌≡◌, [], ◌∷◌, ◌++◌, Some, None, reverse, sym, ◌∙◌}
-use Rattle.takings.proofs.Takings.{two_found, two_lost}
-use Rattle.c_values.specs.Values.{with_expressions, with_name}
+use Rattle.stack_parts.proofs.Takings.{two_found, two_lost}
+use Rattle.c_stack.specs.Values.{with_expressions, with_name}
 use Rattle.c_tree.specs.declared.declarations.Initializer.TheVariants as initializer
-use Rattle.c_values.specs.declared.values.Value.TheVariants as value
-use Rattle.c_values.specs.declared.values.ExpressionValue.TheVariants as expression_value
+use Rattle.c_stack.specs.declared.values.Value.TheVariants as value
+use Rattle.c_stack.specs.declared.values.ExpressionValue.TheVariants as expression_value
 use Rattle.c_make_declarations.proofs.declaration_actions.make_call_value.Goals as goal
 
 pub returns : goal.returns

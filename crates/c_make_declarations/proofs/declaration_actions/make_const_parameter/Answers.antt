@@ -1,8 +1,8 @@
 use Rattle.std.proofs.Common.{◌≡◌, [], ◌∷◌, ◌++◌, Some, None, reverse, sym, ◌∙◌}
-use Rattle.takings.proofs.Takings.{three_found, three_lost}
-use Rattle.c_values.specs.Values.{with_name_option, with_place, with_type}
-use Rattle.c_values.specs.declared.values.Value.TheVariants as value
-use Rattle.c_values.specs.declared.values.PartValue.TheVariants as part_value
+use Rattle.stack_parts.proofs.Takings.{three_found, three_lost}
+use Rattle.c_stack.specs.Values.{with_name_option, with_place, with_type}
+use Rattle.c_stack.specs.declared.values.Value.TheVariants as value
+use Rattle.c_stack.specs.declared.values.PartValue.TheVariants as part_value
 use Rattle.c_make_declarations.proofs.declaration_actions.make_const_parameter.Goals as goal
 
 pub returns : goal.returns

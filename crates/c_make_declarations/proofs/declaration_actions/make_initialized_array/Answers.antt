@@ -1,9 +1,9 @@
 use Rattle.std.proofs.Common.{◌≡◌, [], ◌∷◌, ◌++◌, Some, None, reverse, sym, ◌∙◌}
-use Rattle.takings.proofs.Takings.{three_found, three_lost}
-use Rattle.c_values.specs.Values.{with_expression, with_expressions, with_name}
+use Rattle.stack_parts.proofs.Takings.{three_found, three_lost}
+use Rattle.c_stack.specs.Values.{with_expression, with_expressions, with_name}
 use Rattle.c_tree.specs.declared.declarations.Declarator.TheVariants as declarator
-use Rattle.c_values.specs.declared.values.Value.TheVariants as value
-use Rattle.c_values.specs.declared.values.DeclarationValue.TheVariants as declaration_value
+use Rattle.c_stack.specs.declared.values.Value.TheVariants as value
+use Rattle.c_stack.specs.declared.values.DeclarationValue.TheVariants as declaration_value
 use Rattle.c_make_declarations.proofs.declaration_actions.make_initialized_array.Goals as goal
 
 pub returns : goal.returns

@@ -1,9 +1,9 @@
 use Rattle.std.proofs.Common.{◌≡◌, [], ◌∷◌, ◌++◌, Some, None, reverse, sym, ◌∙◌}
-use Rattle.takings.proofs.Takings.{three_found, three_lost}
-use Rattle.c_values.specs.Values.{with_name, with_names, with_place}
+use Rattle.stack_parts.proofs.Takings.{three_found, three_lost}
+use Rattle.c_stack.specs.Values.{with_name, with_names, with_place}
 use Rattle.c_tree.specs.declared.declarations.Member.TheVariants as member
-use Rattle.c_values.specs.declared.values.Value.TheVariants as value
-use Rattle.c_values.specs.declared.values.PartValue.TheVariants as part_value
+use Rattle.c_stack.specs.declared.values.Value.TheVariants as value
+use Rattle.c_stack.specs.declared.values.PartValue.TheVariants as part_value
 use Rattle.c_make_declarations.proofs.declaration_actions.make_struct_members.Goals as goal
 
 pub returns : goal.returns

@@ -1,9 +1,9 @@
 use Rattle.std.proofs.Common.{◌≡◌, [], ◌∷◌, ◌++◌, Some, None, reverse, sym, ◌∙◌}
-use Rattle.takings.proofs.Takings.{three_found, three_lost}
-use Rattle.c_values.specs.Values.{with_expression, with_place, with_type}
+use Rattle.stack_parts.proofs.Takings.{three_found, three_lost}
+use Rattle.c_stack.specs.Values.{with_expression, with_place, with_type}
 use Rattle.c_tree.specs.declared.expressions.Expression.TheVariants as expression
-use Rattle.c_values.specs.declared.values.Value.TheVariants as value
-use Rattle.c_values.specs.declared.values.ExpressionValue.TheVariants as expression_value
+use Rattle.c_stack.specs.declared.values.Value.TheVariants as value
+use Rattle.c_stack.specs.declared.values.ExpressionValue.TheVariants as expression_value
 use Rattle.c_make_expressions.proofs.expression_actions.make_cast.Goals as goal
 
 pub returns : goal.returns

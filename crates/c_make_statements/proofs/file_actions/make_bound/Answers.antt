@@ -1,9 +1,9 @@
 use Rattle.std.proofs.Common.{◌≡◌, [], ◌∷◌, ◌++◌, Some, None, reverse, sym, ◌∙◌}
-use Rattle.takings.proofs.Takings.{three_found, three_lost}
-use Rattle.c_values.specs.Values.{with_declared, with_place, with_type}
+use Rattle.stack_parts.proofs.Takings.{three_found, three_lost}
+use Rattle.c_stack.specs.Values.{with_declared, with_place, with_type}
 use Rattle.c_tree.specs.declared.file.External.TheVariants as external
-use Rattle.c_values.specs.declared.values.Value.TheVariants as value
-use Rattle.c_values.specs.declared.values.FileValue.TheVariants as file_value
+use Rattle.c_stack.specs.declared.values.Value.TheVariants as value
+use Rattle.c_stack.specs.declared.values.FileValue.TheVariants as file_value
 use Rattle.c_make_statements.proofs.file_actions.make_bound.Goals as goal
 
 pub returns : goal.returns

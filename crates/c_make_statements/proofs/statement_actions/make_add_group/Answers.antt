@@ -1,8 +1,8 @@
 use Rattle.std.proofs.Common.{◌≡◌, [], ◌∷◌, ◌++◌, Some, None, reverse, sym, ◌∙◌}
-use Rattle.takings.proofs.Takings.{two_found, two_lost}
-use Rattle.c_values.specs.Values.{with_group, with_groups}
-use Rattle.c_values.specs.declared.values.Value.TheVariants as value
-use Rattle.c_values.specs.declared.values.SwitchValue.TheVariants as switch_value
+use Rattle.stack_parts.proofs.Takings.{two_found, two_lost}
+use Rattle.c_stack.specs.Values.{with_group, with_groups}
+use Rattle.c_stack.specs.declared.values.Value.TheVariants as value
+use Rattle.c_stack.specs.declared.values.SwitchValue.TheVariants as switch_value
 use Rattle.c_make_statements.proofs.statement_actions.make_add_group.Goals as goal
 
 pub returns-in_default : goal.returns-in_default

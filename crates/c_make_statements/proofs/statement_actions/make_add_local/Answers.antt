@@ -1,9 +1,9 @@
 use Rattle.std.proofs.Common.{◌≡◌, [], ◌∷◌, ◌++◌, Some, None, reverse, sym, ◌∙◌}
-use Rattle.takings.proofs.Takings.{two_found, two_lost}
-use Rattle.c_values.specs.Values.{with_local, with_parts}
+use Rattle.stack_parts.proofs.Takings.{two_found, two_lost}
+use Rattle.c_stack.specs.Values.{with_local, with_parts}
 use Rattle.c_tree.specs.declared.statements.BlockItem.TheVariants as block_item
-use Rattle.c_values.specs.declared.values.Value.TheVariants as value
-use Rattle.c_values.specs.declared.values.StatementValue.TheVariants as statement_value
+use Rattle.c_stack.specs.declared.values.Value.TheVariants as value
+use Rattle.c_stack.specs.declared.values.StatementValue.TheVariants as statement_value
 use Rattle.c_make_statements.proofs.statement_actions.make_add_local.Goals as goal
 
 pub returns-in_default : goal.returns-in_default

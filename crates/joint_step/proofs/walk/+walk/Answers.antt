@@ -14,7 +14,7 @@ use Rattle.joint_ir.specs.Steps.{rows_in, limit_of}
 use Rattle.joint_ir.specs.Statements.{after, calls_at}
 use Rattle.joint_machine.specs.Moments.{Passes, Finds, Halts, Stands, from_here, way_of}
 use Rattle.joint_machine.proofs.Flow.{nothing_done}
-use Rattle.joint_rows.specs.Lists.{after_items, after_option, after_cases, entered_case}
+use Rattle.joint_lists.specs.Lists.{after_items, after_option, after_cases, entered_case}
 use Rattle.joint_step.specs.Walks.{setting_of, calls_in}
 use Rattle.joint_step.proofs.Flows.{does_as, if_zero, if_other, if_halts, switch_none, switch_some, returned_gone, kept_then, items_step, items_leave, items_halt, items_done, cases_step, cases_leave, cases_halt, cases_done}
 use Rattle.joint_step.proofs.Loops.{heads_leave, heads_halt, loop_begins, loop_stops, loop_unbegun, body_halts, body_leaves, step_halts, step_leaves, turn_done, turn_stops, test_halts, turns_over}
@@ -40,7 +40,7 @@ use Rattle.joint_ir.specs.Steps.{slot_type, var_type, with_init, store_at, store
 use Rattle.joint_ir.specs.Statements.{after_body, any_result, is_below_limit}
 use Rattle.joint_ir.specs.WellFormed.{FitsStmt, FitsExpr, FitsInit}
 use Rattle.joint_machine.specs.Moments.{InTypes}
-use Rattle.joint_rows.proofs.Rows.{after-block, after-if, after-switch}
+use Rattle.joint_lists.proofs.Rows.{after-block, after-if, after-switch}
 use Rattle.joint_step.proofs.walk.+walk.Goals as goal
 
 pub block-returns-in_err-way-clause-does : goal.block-returns-in_err-way-clause-does

@@ -3,7 +3,7 @@ use Rattle.joint_ir.specs.declared.stmt.TLoop.{out-TLoop}
 use Rattle.joint_ir.specs.Steps.{limit_of}
 use Rattle.joint_ir.specs.Statements.{after_loop}
 use Rattle.joint_machine.specs.Moments.{IsKept, IsReady, Stands, from_here}
-use Rattle.joint_rows.specs.Lists.{after_items, after_cases, FitsItems}
+use Rattle.joint_lists.specs.Lists.{after_items, after_cases, FitsItems}
 use Rattle.joint_step.specs.Walks.{setting_of, calls_in}
 use Rattle.joint_step.proofs.Strides.{stride}
 use Rattle.joint_step.proofs.Turns.{loop_turns}

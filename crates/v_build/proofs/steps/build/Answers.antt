@@ -1,7 +1,7 @@
 use Rattle.std.proofs.Common.{◌≡◌, List, [], ◌∷◌, IfOk, Some, subst, sym, ◌∙◌}
 use Rattle.src_text.specs.declared.refusal.Place.{Place}
-use Rattle.v_values.specs.declared.values.Value.TheVariants as value
-use Rattle.v_values.specs.declared.values.ModuleValue.TheVariants as module_value
+use Rattle.v_stack.specs.declared.values.Value.TheVariants as value
+use Rattle.v_stack.specs.declared.values.ModuleValue.TheVariants as module_value
 use Rattle.v_actions.specs.Acts.{built}
 use Rattle.v_actions.specs.Reading.{BuildsTree}
 use Rattle.v_build.proofs.Spots.{with_places}

@@ -1,8 +1,8 @@
 use Rattle.std.proofs.Common.{[], ◌∷◌, ◌++◌, Some, reverse, sym, ◌∙◌}
-use Rattle.takings.proofs.Takings.{two_lost}
-use Rattle.v_values.specs.Values.{with_parameter, with_parameters}
-use Rattle.v_values.specs.declared.values.DeclareValue.TheVariants as DeclareValue
-use Rattle.v_values.specs.declared.values.Value.TheVariants as Value
+use Rattle.stack_parts.proofs.Takings.{two_lost}
+use Rattle.v_stack.specs.Values.{with_parameter, with_parameters}
+use Rattle.v_stack.specs.declared.values.DeclareValue.TheVariants as DeclareValue
+use Rattle.v_stack.specs.declared.values.Value.TheVariants as Value
 use Rattle.v_make_declarations.proofs.declaration_actions.make_add_parameter.Goals as goal
 
 pub returns-in_default : goal.returns-in_default

@@ -1,8 +1,8 @@
 use Rattle.std.proofs.Common.{◌∷◌, Some, reverse, sym, ◌∙◌}
-use Rattle.takings.proofs.Takings.{two_found, two_lost}
-use Rattle.v_values.specs.Values.{with_expr_option, with_name}
-use Rattle.v_values.specs.declared.values.NamesValue.TheVariants as NamesValue
-use Rattle.v_values.specs.declared.values.Value.TheVariants as Value
+use Rattle.stack_parts.proofs.Takings.{two_found, two_lost}
+use Rattle.v_stack.specs.Values.{with_expr_option, with_name}
+use Rattle.v_stack.specs.declared.values.NamesValue.TheVariants as NamesValue
+use Rattle.v_stack.specs.declared.values.Value.TheVariants as Value
 use Rattle.v_make_declarations.proofs.declaration_actions.make_declarator.Goals as goal
 
 pub returns : goal.returns

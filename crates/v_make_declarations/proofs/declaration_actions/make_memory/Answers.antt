@@ -1,9 +1,9 @@
 use Rattle.std.proofs.Common.{◌∷◌, Some, reverse, sym, ◌∙◌}
-use Rattle.takings.proofs.Takings.{two_found, two_lost}
-use Rattle.v_values.specs.Values.{with_name, with_range}
-use Rattle.v_values.specs.declared.values.NamesValue.TheVariants as NamesValue
+use Rattle.stack_parts.proofs.Takings.{two_found, two_lost}
+use Rattle.v_stack.specs.Values.{with_name, with_range}
+use Rattle.v_stack.specs.declared.values.NamesValue.TheVariants as NamesValue
 use Rattle.v_tree.specs.declared.item.RegisterForm.TheVariants as RegisterForm
-use Rattle.v_values.specs.declared.values.Value.TheVariants as Value
+use Rattle.v_stack.specs.declared.values.Value.TheVariants as Value
 use Rattle.v_make_declarations.proofs.declaration_actions.make_memory.Goals as goal
 
 pub returns : goal.returns

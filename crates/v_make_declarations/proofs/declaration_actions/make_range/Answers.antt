@@ -1,8 +1,8 @@
 use Rattle.std.proofs.Common.{◌∷◌, Some, reverse, sym, ◌∙◌}
-use Rattle.takings.proofs.Takings.{three_found, three_lost}
-use Rattle.v_values.specs.Values.{with_expr, with_place}
-use Rattle.v_values.specs.declared.values.ExprValue.TheVariants as ExprValue
-use Rattle.v_values.specs.declared.values.Value.TheVariants as Value
+use Rattle.stack_parts.proofs.Takings.{three_found, three_lost}
+use Rattle.v_stack.specs.Values.{with_expr, with_place}
+use Rattle.v_stack.specs.declared.values.ExprValue.TheVariants as ExprValue
+use Rattle.v_stack.specs.declared.values.Value.TheVariants as Value
 use Rattle.v_make_declarations.proofs.declaration_actions.make_range.Goals as goal
 
 pub returns : goal.returns

@@ -1,8 +1,8 @@
 use Rattle.std.proofs.Common.{[], ◌∷◌, ◌++◌, Some, reverse, sym, ◌∙◌}
-use Rattle.takings.proofs.Takings.{four_found, four_lost}
-use Rattle.v_values.specs.Values.{with_groups, with_parameter_range, with_parameters, with_place}
-use Rattle.v_values.specs.declared.values.DeclareValue.TheVariants as DeclareValue
-use Rattle.v_values.specs.declared.values.Value.TheVariants as Value
+use Rattle.stack_parts.proofs.Takings.{four_found, four_lost}
+use Rattle.v_stack.specs.Values.{with_groups, with_parameter_range, with_parameters, with_place}
+use Rattle.v_stack.specs.declared.values.DeclareValue.TheVariants as DeclareValue
+use Rattle.v_stack.specs.declared.values.Value.TheVariants as Value
 use Rattle.v_make_declarations.proofs.module_actions.make_close_group.Goals as goal
 
 pub returns : goal.returns

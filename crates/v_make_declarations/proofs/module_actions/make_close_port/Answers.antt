@@ -1,8 +1,8 @@
 use Rattle.std.proofs.Common.{[], ◌∷◌, ◌++◌, Some, reverse, sym, ◌∙◌}
-use Rattle.takings.proofs.Takings.{six_found, six_lost}
-use Rattle.v_values.specs.Values.{with_declarators, with_direction, with_net_kind, with_ports, with_range_option, with_sign}
-use Rattle.v_values.specs.declared.values.ModuleValue.TheVariants as ModuleValue
-use Rattle.v_values.specs.declared.values.Value.TheVariants as Value
+use Rattle.stack_parts.proofs.Takings.{six_found, six_lost}
+use Rattle.v_stack.specs.Values.{with_declarators, with_direction, with_net_kind, with_ports, with_range_option, with_sign}
+use Rattle.v_stack.specs.declared.values.ModuleValue.TheVariants as ModuleValue
+use Rattle.v_stack.specs.declared.values.Value.TheVariants as Value
 use Rattle.v_make_declarations.proofs.module_actions.make_close_port.Goals as goal
 
 pub returns : goal.returns

@@ -1,9 +1,9 @@
 use Rattle.std.proofs.Common.{◌∷◌, Some, reverse, sym, ◌∙◌}
-use Rattle.takings.proofs.Takings.{three_found, three_lost}
-use Rattle.v_values.specs.Values.{with_instances, with_name, with_overrides}
+use Rattle.stack_parts.proofs.Takings.{three_found, three_lost}
+use Rattle.v_stack.specs.Values.{with_instances, with_name, with_overrides}
 use Rattle.v_tree.specs.declared.item.Item.TheVariants as Item
-use Rattle.v_values.specs.declared.values.ModuleValue.TheVariants as ModuleValue
-use Rattle.v_values.specs.declared.values.Value.TheVariants as Value
+use Rattle.v_stack.specs.declared.values.ModuleValue.TheVariants as ModuleValue
+use Rattle.v_stack.specs.declared.values.Value.TheVariants as Value
 use Rattle.v_make_declarations.proofs.module_actions.make_instances_item.Goals as goal
 
 pub returns : goal.returns

@@ -1,8 +1,8 @@
 use Rattle.std.proofs.Common.{◌≡◌, [], ◌∷◌, ◌++◌, Some, None, true, false, reverse, sym, ap, ◌∙◌}
-use Rattle.takings.proofs.Takings.{two_lost}
-use Rattle.v_values.specs.Values.{with_expr, with_exprs}
-use Rattle.v_values.specs.declared.values.ExprValue.TheVariants as ExprValue
-use Rattle.v_values.specs.declared.values.Value.TheVariants as Value
+use Rattle.stack_parts.proofs.Takings.{two_lost}
+use Rattle.v_stack.specs.Values.{with_expr, with_exprs}
+use Rattle.v_stack.specs.declared.values.ExprValue.TheVariants as ExprValue
+use Rattle.v_stack.specs.declared.values.Value.TheVariants as Value
 use Rattle.v_make_expressions.proofs.expression_actions.make_add_expr.Goals as goal
 
 pub returns-in_default : goal.returns-in_default

@@ -1,9 +1,9 @@
 use Rattle.std.proofs.Common.{◌≡◌, [], ◌∷◌, ◌++◌, Some, None, true, false, reverse, sym, ap, ◌∙◌}
-use Rattle.takings.proofs.Takings.{three_found, three_lost}
-use Rattle.v_values.specs.Values.{with_expr}
+use Rattle.stack_parts.proofs.Takings.{three_found, three_lost}
+use Rattle.v_stack.specs.Values.{with_expr}
 use Rattle.v_tree.specs.declared.expr.Expr.TheVariants as Expr
-use Rattle.v_values.specs.declared.values.ExprValue.TheVariants as ExprValue
-use Rattle.v_values.specs.declared.values.Value.TheVariants as Value
+use Rattle.v_stack.specs.declared.values.ExprValue.TheVariants as ExprValue
+use Rattle.v_stack.specs.declared.values.Value.TheVariants as Value
 use Rattle.v_make_expressions.proofs.expression_actions.make_conditional.Goals as goal
 
 pub returns : goal.returns

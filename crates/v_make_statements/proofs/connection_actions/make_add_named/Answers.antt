@@ -1,8 +1,8 @@
 use Rattle.std.proofs.Common.{[], ◌∷◌, ◌++◌, Some, reverse, sym, ◌∙◌}
-use Rattle.takings.proofs.Takings.{two_lost}
-use Rattle.v_values.specs.Values.{with_named, with_named_values}
-use Rattle.v_values.specs.declared.values.ConnectValue.TheVariants as ConnectValue
-use Rattle.v_values.specs.declared.values.Value.TheVariants as Value
+use Rattle.stack_parts.proofs.Takings.{two_lost}
+use Rattle.v_stack.specs.Values.{with_named, with_named_values}
+use Rattle.v_stack.specs.declared.values.ConnectValue.TheVariants as ConnectValue
+use Rattle.v_stack.specs.declared.values.Value.TheVariants as Value
 use Rattle.v_make_statements.proofs.connection_actions.make_add_named.Goals as goal
 
 pub returns-in_default : goal.returns-in_default

@@ -1,8 +1,8 @@
 use Rattle.std.proofs.Common.{◌∷◌, Some, reverse, sym, ◌∙◌}
-use Rattle.takings.proofs.Takings.{two_found, two_lost}
-use Rattle.v_values.specs.Values.{with_connections, with_name}
-use Rattle.v_values.specs.declared.values.PartValue.TheVariants as PartValue
-use Rattle.v_values.specs.declared.values.Value.TheVariants as Value
+use Rattle.stack_parts.proofs.Takings.{two_found, two_lost}
+use Rattle.v_stack.specs.Values.{with_connections, with_name}
+use Rattle.v_stack.specs.declared.values.PartValue.TheVariants as PartValue
+use Rattle.v_stack.specs.declared.values.Value.TheVariants as Value
 use Rattle.v_make_statements.proofs.connection_actions.make_instance.Goals as goal
 
 pub returns : goal.returns

@@ -1,8 +1,8 @@
 use Rattle.std.proofs.Common.{[], ◌∷◌, ◌++◌, Some, reverse, sym, ◌∙◌}
-use Rattle.takings.proofs.Takings.{two_lost}
-use Rattle.v_values.specs.Values.{with_stmt, with_stmts}
-use Rattle.v_values.specs.declared.values.StmtValue.TheVariants as StmtValue
-use Rattle.v_values.specs.declared.values.Value.TheVariants as Value
+use Rattle.stack_parts.proofs.Takings.{two_lost}
+use Rattle.v_stack.specs.Values.{with_stmt, with_stmts}
+use Rattle.v_stack.specs.declared.values.StmtValue.TheVariants as StmtValue
+use Rattle.v_stack.specs.declared.values.Value.TheVariants as Value
 use Rattle.v_make_statements.proofs.statement_actions.make_add_stmt.Goals as goal
 
 pub returns-in_default : goal.returns-in_default

@@ -1,10 +1,10 @@
 use Rattle.std.proofs.Common.{◌∷◌, Some, reverse, sym, ◌∙◌}
-use Rattle.takings.proofs.Takings.{three_found, three_lost}
-use Rattle.v_values.specs.Values.{with_case_items, with_expr, with_place}
+use Rattle.stack_parts.proofs.Takings.{three_found, three_lost}
+use Rattle.v_stack.specs.Values.{with_case_items, with_expr, with_place}
 use Rattle.v_tree.specs.declared.stmt.CaseKind.TheVariants as CaseKind
 use Rattle.v_tree.specs.declared.stmt.Stmt.TheVariants as Stmt
-use Rattle.v_values.specs.declared.values.StmtValue.TheVariants as StmtValue
-use Rattle.v_values.specs.declared.values.Value.TheVariants as Value
+use Rattle.v_stack.specs.declared.values.StmtValue.TheVariants as StmtValue
+use Rattle.v_stack.specs.declared.values.Value.TheVariants as Value
 use Rattle.v_make_statements.proofs.statement_actions.make_casez.Goals as goal
 
 pub returns : goal.returns

@@ -1,9 +1,9 @@
 use Rattle.std.proofs.Common.{◌∷◌, Some, reverse, sym, ap, ◌∙◌}
-use Rattle.takings.proofs.Takings.{seven_found, seven_lost}
-use Rattle.v_values.specs.Values.{with_expr, with_name, with_place, with_stmt}
+use Rattle.stack_parts.proofs.Takings.{seven_found, seven_lost}
+use Rattle.v_stack.specs.Values.{with_expr, with_name, with_place, with_stmt}
 use Rattle.v_tree.specs.declared.stmt.Stmt.TheVariants as Stmt
-use Rattle.v_values.specs.declared.values.StmtValue.TheVariants as StmtValue
-use Rattle.v_values.specs.declared.values.Value.TheVariants as Value
+use Rattle.v_stack.specs.declared.values.StmtValue.TheVariants as StmtValue
+use Rattle.v_stack.specs.declared.values.Value.TheVariants as Value
 use Rattle.v_make_statements.proofs.statement_actions.make_for.Goals as goal
 
 pub returns : goal.returns

@@ -1,0 +1,97 @@
+-- What the steps weave over tokens is how the values look that they build.
+use Rattle.std.proofs.Common.{◌≡◌, ℕ, suc, zero, ◌-◌, ◌<◌, Bool, true, false, cond, ◌&&◌, not, List, [], ◌∷◌, ◌++◌, length, map, get_or, Option, Some, None, refl, sym, ◌∙◌, ap, option_and_then, arith}
+use Rattle.std.proofs.lemmas.Bool.{and_parts}
+use Rattle.std.proofs.lemmas.List.{get_or-map, length-map}
+use Rattle.src_text.specs.declared.refusal.Place.{Place}
+use Rattle.src_text.specs.Place.{place_at}
+use Rattle.ll_actions.specs.After.{kinds_before, IsAfter, IsPlaced, is_claimed}
+use Rattle.ll_actions.specs.Sorts.{Signature, sorts_after, signature_of}
+use Rattle.ll_actions.specs.declared.step.Step.{Step}
+use Rattle.ll_actions.proofs.Typed.{next_step}
+use Rattle.node_depth.specs.declared.weave.Weave.{Weave}
+use Rattle.node_depth.specs.Weaves.{Look, weave_of, weaves, woven}
+use Rattle.c_tokens.specs.declared.directives.CToken.{CToken}
+use Rattle.c_grammar.specs.Actions.{SIGNATURES, AFTER}
+use Rattle.c_grammar.specs.declared.TheConstants.{WEAVES}
+use Rattle.c_stack.specs.Values.{Values}
+use Rattle.c_actions.specs.Acts.{after_action}
+use Rattle.c_actions.specs.Numbers.{action_of}
+use Rattle.c_actions.specs.Reading.{kinds_of, token_before, end_of, spelling, built, place_of_token, NO_TOKEN}
+use Rattle.c_actions.specs.Sorts.{sorts_of}
+use Rattle.c_actions.proofs.Fitting.{Makes}
+use Rattle.c_actions.proofs.Turns.{signature, signature_at, fit}
+use Rattle.c_depth.proofs.Looks.{PlaceLook, map_look, placed_weaves, weaves_map, own_place}
+use Rattle.c_depth.proofs.Turns.{weave, weave_at, look_action}
+use Rattle.c_depth.proofs.Values.{looks_of}
+use Rattle.c_depth.proofs.Woven.{Looks}
+
+-- each action whose value begins at a token comes right after a token of a kind that is known
+abbrev do_claim : List Weave → List (List ℕ) → Bool
+do_claim [] after = true
+do_claim (w ∷ ws) [] = not w.own && do_claim ws []
+do_claim (w ∷ ws) (ks ∷ after) = cond w.own (is_claimed ks) true && do_claim ws after
+
+claim : do_claim WEAVES AFTER ≡ true
+unfolding AFTER
+claim = refl
+
+claimed : (ws : List Weave) (after : List (List ℕ)) (a : ℕ) → do_claim ws after ≡ true → (weave_of ws a).own ≡ true → is_claimed (kinds_before after a) ≡ true
+claimed [] after a h own = absurd (let z : false ≡ true = own in cc)
+claimed (w ∷ ws) [] zero h own = absurd (let p = and_parts (not w.own) (do_claim ws []) h in let q : not w.own ≡ true = p.0 in cc)
+claimed (w ∷ ws) [] (suc a) h own = claimed ws [] a (and_parts (not w.own) (do_claim ws []) h).1 own
+claimed (w ∷ ws) (ks ∷ after) zero h own =
+    let p = and_parts (cond w.own (is_claimed ks) true) (do_claim ws after) h in ap (λ b. cond b (is_claimed ks) true) (sym own) ∙ p.0
+claimed (w ∷ ws) (ks ∷ after) (suc a) h own = claimed ws after a (and_parts (cond w.own (is_claimed ks) true) (do_claim ws after) h).1 own
+
+after_some : (kinds tokens : List ℕ) (i : ℕ) → is_claimed kinds ≡ true → IsAfter kinds tokens i → 0 < i
+after_some [] tokens i c h = absurd (let z : false ≡ true = c in cc)
+after_some (k ∷ ks) tokens i c h = h.0
+
+-- the token right before a step of its own has the place of its number
+own_token : (text : List ℕ) (tokens : List CToken) (s : Step) → IsPlaced AFTER (kinds_of tokens) s → (weave_of WEAVES s.action).own ≡ true →
+    place_at text (token_before tokens s.token).at ≡ place_of_token text tokens (s.token - 1)
+own_token text tokens s h own =
+    let some = after_some (kinds_before AFTER s.action) (kinds_of tokens) s.token (claimed WEAVES AFTER s.action claim own) h.comes_after in
+    let within = h.within in
+    let n = length-map tokens (λ (t : CToken). t.kind) in
+    let small : s.token - 1 < length tokens = omega (arith, some, within, n) in
+    ap (place_at text) (sym (get_or-map (λ (t : CToken). t.at) tokens (s.token - 1) NO_TOKEN (length text) small))
+
+module _ (text : List ℕ) (tokens : List CToken) where
+  abbrev place_of : ℕ → Place
+  place_of i = place_of_token text tokens i
+
+  abbrev nothing : Place
+  nothing = place_of 0
+
+  abbrev looks : Values → List PlaceLook
+  looks st = looks_of nothing st
+
+  next : (st : Values) (rest : List ℕ) (o : Option Values) (final : Values) (goal : List PlaceLook) (go : Values → Option Values) (g : Signature) (w : Weave) (p : Place) →
+      Makes g.gives rest st o → Looks nothing w p st o →
+      ((new : Values) → sorts_of new ≡ g.gives ∷ rest → looks new ≡ placed_weaves nothing w p (looks st) → go new ≡ Some final → looks final ≡ goal) →
+      option_and_then go o ≡ Some final → looks final ≡ goal
+  next st rest None final goal go g w p m l k e = absurd m
+  next st rest (Some new) final goal go g w p m l k e = k new m l e
+
+  pub looks_woven : (ss : List Step) (st final : Values) (xs r : List ℕ) (ls : List Look) → sorts_of st ≡ xs → sorts_after SIGNATURES ss xs ≡ Some r →
+      ((k : ℕ) (d : Step) → k < length ss → IsPlaced AFTER (kinds_of tokens) (get_or ss k d)) → looks st ≡ map (map_look place_of) ls →
+      built text tokens ss st ≡ Some final → looks final ≡ map (map_look place_of) (woven WEAVES ss ls)
+  looks_woven [] st final xs r ls e h placed l b = ap looks (let z : final ≡ st = cc in z) ∙ l
+  looks_woven (s ∷ ss) st final xs r ls e h placed l b =
+      let f = next_step SIGNATURES s ss xs r h in
+      let t = token_before tokens s.token in
+      let a = action_of s.action in
+      let g = signature a in
+      let p = place_at text t.at in
+      let o = after_action a (end_of text) p (spelling text t) st in
+      let finds : sorts_of st ≡ g.takes ++ f.rest = e ∙ (f.is ∙ ap (λ (x : Signature). x.takes ++ f.rest) (signature_at s.action)) in
+      let own : (weave a).own ≡ true → p ≡ place_of (s.token - 1) = (λ z. own_token text tokens s (placed 0 s (omega arith)) (ap (λ (w : Weave). w.own) (weave_at s.action) ∙ z)) in
+      next st f.rest o final (map (map_look place_of) (woven WEAVES (s ∷ ss) ls)) (built text tokens ss) g (weave a) p
+      (fit a (end_of text) p (spelling text t) st f.rest finds) (look_action a nothing (end_of text) p (spelling text t) st f.rest finds)
+      (λ new m v. looks_woven ss new final ((signature_of SIGNATURES s.action).gives ∷ f.rest) r (weaves (weave_of WEAVES s.action) s.token ls)
+      (m ∙ ap (λ (x : Signature). x.gives ∷ f.rest) (sym (signature_at s.action))) f.goes (λ k d small. placed (suc k) d (omega (arith, small)))
+      (v ∙ (ap (placed_weaves nothing (weave a) p) l ∙ (own_place nothing (weave a) p (place_of (s.token - 1)) (map (map_look place_of) ls) own
+      ∙ (ap (λ w. placed_weaves nothing w (place_of (s.token - 1)) (map (map_look place_of) ls)) (sym (weave_at s.action))
+      ∙ sym (weaves_map place_of (weave_of WEAVES s.action) s.token ls))))))
+      b

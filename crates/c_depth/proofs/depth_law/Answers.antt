@@ -1,0 +1,5 @@
+use Rattle.c_depth.proofs.Laws.{depth_law}
+use Rattle.c_depth.proofs.depth_law.Goals as goal
+
+pub returns : goal.returns
+returns c = depth_law

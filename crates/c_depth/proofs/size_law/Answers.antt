@@ -1,0 +1,5 @@
+use Rattle.c_depth.proofs.Sizes.{size_law}
+use Rattle.c_depth.proofs.size_law.Goals as goal
+
+pub returns : goal.returns
+returns c = size_law

@@ -1,5 +1,0 @@
-use Rattle.c_looks.proofs.Laws.{depth_law}
-use Rattle.c_looks.proofs.depth_law.Goals as goal
-
-pub returns : goal.returns
-returns c = depth_law

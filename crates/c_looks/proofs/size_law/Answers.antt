@@ -1,5 +1,0 @@
-use Rattle.c_looks.proofs.Sizes.{size_law}
-use Rattle.c_looks.proofs.size_law.Goals as goal
-
-pub returns : goal.returns
-returns c = size_law

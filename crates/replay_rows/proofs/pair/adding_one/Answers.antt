@@ -1,5 +1,0 @@
-use Rattle.replay_rows.proofs.Same.{adding_well_formed}
-use Rattle.replay_rows.proofs.pair.adding_one.Goals as goal
-
-pub returns-clause-well : goal.returns-clause-well
-returns-clause-well c = adding_well_formed _ _ _ (c.in_ok-adding_program.ensures) (c.in_ok-counter.ensures) c.new.ensures

@@ -1,6 +1,0 @@
-use Rattle.std.specs.List.{IsDistinct}
-use Rattle.solve_rows.proofs.smallest.Goals as goal
-
-pub push-requires-clause-distinct : goal.push-requires-clause-distinct
-unfolding IsDistinct
-push-requires-clause-distinct g c = tt
