@@ -9,7 +9,7 @@ use Rattle.v_views.specs.declared.Stmt as stmt
 use Rattle.v_views.specs.declared.CaseItem.{CaseItem}
 use Rattle.v_views.specs.declared.CaseItem as item
 use Rattle.v_views.specs.Spots.{Spot, View, BitWrite, is_written}
-use Rattle.v_views.specs.Language.{Language}
+use Rattle.v_views.specs.Language.{own_sites, Language}
 use Rattle.v_views.specs.Run.{State, pattern_sites, stmt_sites, case_length, case_signed, matches, writes, assigned, holds, hits, run, run_row, first_match, default_of}
 use Rattle.v_views.specs.Names.{blank, no_sites, every, target_certain, patterns_read, patterns_fixed, items_read, items_fixed, has_default, is_met, is_complete, is_full, certain, row_certain, items_certain, outside, row_outside, items_outside}
 use Rattle.v_views.proofs.Bools.{and_parts, both, or_cases, or_left, or_right, true_or_false, not_both}
@@ -62,22 +62,22 @@ module _ {E : Type 0} (l : Language E) (u : ℕ → ℕ) where
   hits_local : (W : ℕ) (sign : Bool) (n : ℕ) (ps : List (Pattern E)) (v w : View) (k : ℕ) → ((x : Spot) → patterns_read l ps x ≡ true → v x ≡ w x) → hits l u W sign n ps v k ≡ hits l u W sign n ps w k
   hits_local W sign n [] v w k h = refl
   hits_local W sign n (p ∷ ps) v w k h =
-      ap (λ m. matches W p.loose.value n m || hits l u W sign n ps v (k + l.sites p.value)) (l.local p.value v w u W sign k (λ x r. h x (or_left (l.reads p.value x) (patterns_read l ps x) r)))
-      ∙ ap (λ b. matches W p.loose.value n (l.value p.value w u W sign k) || b) (hits_local W sign n ps v w (k + l.sites p.value) (λ x r. h x (or_right (l.reads p.value x) (patterns_read l ps x) r)))
+      ap (λ m. matches W p.loose.value n m || hits l u W sign n ps v (k + l.sites p.value W)) (l.local p.value v w u W sign k (λ x r. h x (or_left (l.reads p.value x) (patterns_read l ps x) r)))
+      ∙ ap (λ b. matches W p.loose.value n (l.value p.value w u W sign k) || b) (hits_local W sign n ps v w (k + l.sites p.value W) (λ x r. h x (or_right (l.reads p.value x) (patterns_read l ps x) r)))
 
   -- items of constants match the same in every view
   hits_steady : (W : ℕ) (sign : Bool) (n : ℕ) (ps : List (Pattern E)) (v : View) (j k : ℕ) → patterns_fixed l W sign ps ≡ true → hits l u W sign n ps v j ≡ hits l no_sites W sign n ps blank k
   hits_steady W sign n [] v j k h = refl
   hits_steady W sign n (p ∷ ps) v j k h =
       let f = and_parts (l.fixed p.value W sign) (patterns_fixed l W sign ps) h in
-      ap (λ m. matches W p.loose.value n m || hits l u W sign n ps v (j + l.sites p.value)) (l.steady p.value v blank u no_sites W sign j k f.0)
-      ∙ ap (λ b. matches W p.loose.value n (l.value p.value blank no_sites W sign k) || b) (hits_steady W sign n ps v (j + l.sites p.value) (k + l.sites p.value) f.1)
+      ap (λ m. matches W p.loose.value n m || hits l u W sign n ps v (j + l.sites p.value W)) (l.steady p.value v blank u no_sites W sign j k f.0)
+      ∙ ap (λ b. matches W p.loose.value n (l.value p.value blank no_sites W sign k) || b) (hits_steady W sign n ps v (j + l.sites p.value W) (k + l.sites p.value W) f.1)
 
   hits_mod : (t : ℕ → ℕ) (W : ℕ) (sign : Bool) (n : ℕ) (ps : List (Pattern E)) (v : View) (k : ℕ) → hits l t W sign (n % 2 ^ W) ps v k ≡ hits l t W sign n ps v k
   hits_mod t W sign n [] v k = refl
   hits_mod t W sign n (p ∷ ps) v k =
-      ap (λ b. b || hits l t W sign (n % 2 ^ W) ps v (k + l.sites p.value)) (matches_mod W W p.loose.value n (l.value p.value v t W sign k) (omega arith))
-      ∙ ap (λ b. matches W p.loose.value n (l.value p.value v t W sign k) || b) (hits_mod t W sign n ps v (k + l.sites p.value))
+      ap (λ b. b || hits l t W sign (n % 2 ^ W) ps v (k + l.sites p.value W)) (matches_mod W W p.loose.value n (l.value p.value v t W sign k) (omega arith))
+      ∙ ap (λ b. matches W p.loose.value n (l.value p.value v t W sign k) || b) (hits_mod t W sign n ps v (k + l.sites p.value W))
 
   met_mod : {m : _} (W : ℕ) (sign : Bool) (items : stmt.Row_of-CaseItem E m) (n : ℕ) → is_met l W sign items (n % 2 ^ W) ≡ is_met l W sign items n
   met_mod W sign stmt.end_of-CaseItem n = refl
@@ -106,21 +106,21 @@ module _ {E : Type 0} (l : Language E) (u : ℕ → ℕ) where
     local (stmt.Block' place _ body) k D p q h A = local_row body k D p q h A
     local (stmt.If' place e _ (stmt.more_of-Stmt a _)) k D p q h A =
         let v = holds_local e p.view q.view k (λ x r. A.view x (h x (or_left (l.reads e x) (outside l a x) r))) in
-        let F = local a (k + l.sites e) D p q (λ x o. h x (or_right (l.reads e x) (outside l a x) o)) A in
+        let F = local a (k + own_sites l e) D p q (λ x o. h x (or_right (l.reads e x) (outside l a x) o)) A in
         none_certain D _ _ (if_alike D _ _ _ _ _ _ v (alike_less (With D (certain l a)) D _ _ (λ x d. inl d) F) A)
     local (stmt.IfElse' place e _ (stmt.more_of-Stmt a _) _ (stmt.more_of-Stmt b _)) k D p q h A =
         let X = With D (λ x. certain l a x && certain l b x) in
         let o : Spot → Bool = λ x. outside l a x || outside l b x in
         let v = holds_local e p.view q.view k (λ x r. A.view x (h x (or_left (l.reads e x) (o x) r))) in
-        let F = local a (k + l.sites e) D p q (λ x t. h x (or_right (l.reads e x) (o x) (or_left (outside l a x) (outside l b x) t))) A in
-        let G = local b (k + l.sites e + stmt_sites l a) D p q (λ x t. h x (or_right (l.reads e x) (o x) (or_right (outside l a x) (outside l b x) t))) A in
+        let F = local a (k + own_sites l e) D p q (λ x t. h x (or_right (l.reads e x) (o x) (or_left (outside l a x) (outside l b x) t))) A in
+        let G = local b (k + own_sites l e + stmt_sites l a) D p q (λ x t. h x (or_right (l.reads e x) (o x) (or_right (outside l a x) (outside l b x) t))) A in
         if_alike X _ _ _ _ _ _ v
         (alike_less (With D (certain l a)) X _ _ (λ x d. elim d [ inl c ↦ inl c | inr c ↦ inr (and_parts (certain l a x) (certain l b x) c).0 ]) F)
         (alike_less (With D (certain l b)) X _ _ (λ x d. elim d [ inl c ↦ inl c | inr c ↦ inr (and_parts (certain l a x) (certain l b x) c).1 ]) G)
     local (stmt.Case' place e _ items) k D p q h A =
         let W = case_length l (l.length e) items in
         let sign = case_signed l (l.signed e) items in
-        let j = k + l.sites e in
+        let j = k + l.sites e W in
         let X = With D (certain l (stmt.Case' place e _ items)) in
         let o : Spot → Bool = λ x. items_read l items x || items_outside l items x in
         let v = l.local e p.view q.view u W sign k (λ x r. A.view x (h x (or_left (l.reads e x) (o x) r))) in
@@ -128,8 +128,8 @@ module _ {E : Type 0} (l : Language E) (u : ℕ → ℕ) where
         let reads : (x : Spot) → items_read l items x ≡ true → D x = λ x r. h x (or_right (l.reads e x) (o x) (or_left (items_read l items x) (items_outside l items x) r)) in
         let outs : (x : Spot) → items_outside l items x ≡ true → D x = λ x r. h x (or_right (l.reads e x) (o x) (or_right (items_read l items x) (items_outside l items x) r)) in
         let full = is_full l e items in
-        let op = default_of l u items j p in
-        let oq = default_of l u items j q in
+        let op = default_of l u W items j p in
+        let oq = default_of l u W items j q in
         let by : ((x : Spot) → X x → With D (items_certain l items) x) → Ends X W sign n items op oq → Alike X (run l u (stmt.Case' place e _ items) k p) (run l u (stmt.Case' place e _ items) k q) =
         λ c ends. subst (λ m. Alike X (first_match l u W sign m items j p op) (first_match l u W sign n items j q oq)) (sym v)
         (local_first items W sign n j D X p q op oq reads outs c A ends) in
@@ -137,12 +137,12 @@ module _ {E : Type 0} (l : Language E) (u : ℕ → ℕ) where
           | inl t ↦
               let c : (x : Spot) → X x → With D (items_certain l items) x = λ x d. elim d [ inl c ↦ inl c | inr c ↦ inr (and_parts full (items_certain l items x) c).1 ] in
               by c (elim (or_cases (has_default l items) (is_complete l W sign items) t) [
-                | inl y ↦ inr (local_default items j D X p q outs c (inl y) A)
+                | inl y ↦ inr (local_default items W j D X p q outs c (inl y) A)
                 | inr y ↦ inl (complete_met W sign items y.1 n)
               ])
           | inr f ↦
               let c : (x : Spot) → X x → D x = λ x d. elim d [ inl c ↦ c | inr c ↦ absurd (not_both full (and_parts full (items_certain l items x) c).0 f) ] in
-              by (λ x d. inl (c x d)) (inr (local_default items j D X p q outs (λ x d. inl (c x d)) (inr c) A))
+              by (λ x d. inl (c x d)) (inr (local_default items W j D X p q outs (λ x d. inl (c x d)) (inr c) A))
         ]
     local (stmt.Assignment place Blocking t e) k D p q h A =
         let bs = writes l u t e q.view k in
@@ -174,9 +174,9 @@ module _ {E : Type 0} (l : Language E) (u : ℕ → ℕ) where
     local_first stmt.end_of-CaseItem W sign n k D X p q other_p other_q r h c A o = elim o [ inl t ↦ absurd (not_both false t.1 refl) | inr B ↦ B ]
     local_first (stmt.more_of-CaseItem (item.Values' ps _ (stmt.more_of-Stmt a _)) rest) W sign n k D X p q other_p other_q r h c A o =
         let v = hits_local W sign n ps p.view q.view k (λ x t. A.view x (r x (or_left (patterns_read l ps x) (items_read l rest x) t))) in
-        let here = local a (k + pattern_sites l ps) D p q (λ x t. h x (or_left (outside l a x) (items_outside l rest x) t)) A in
+        let here = local a (k + pattern_sites l W ps) D p q (λ x t. h x (or_left (outside l a x) (items_outside l rest x) t)) A in
         let first = alike_less (With D (certain l a)) X _ _ (λ x e. elim (c x e) [ inl d ↦ inl d | inr d ↦ inr (and_parts (certain l a x) (items_certain l rest x) d).0 ]) here in
-        let after : Ends X W sign n rest other_p other_q → Alike X (first_match l u W sign n rest (k + pattern_sites l ps + stmt_sites l a) p other_p) (first_match l u W sign n rest (k + pattern_sites l ps + stmt_sites l a) q other_q) = λ ends. local_first rest W sign n (k + pattern_sites l ps + stmt_sites l a) D X p q other_p other_q
+        let after : Ends X W sign n rest other_p other_q → Alike X (first_match l u W sign n rest (k + pattern_sites l W ps + stmt_sites l a) p other_p) (first_match l u W sign n rest (k + pattern_sites l W ps + stmt_sites l a) q other_q) = λ ends. local_first rest W sign n (k + pattern_sites l W ps + stmt_sites l a) D X p q other_p other_q
         (λ x t. r x (or_right (patterns_read l ps x) (items_read l rest x) t))
         (λ x t. h x (or_right (outside l a x) (items_outside l rest x) t))
         (λ x e. elim (c x e) [ inl d ↦ inl d | inr d ↦ inr (and_parts (certain l a x) (items_certain l rest x) d).1 ]) A ends in
@@ -194,12 +194,12 @@ module _ {E : Type 0} (l : Language E) (u : ℕ → ℕ) where
         (λ x t. h x (or_right (outside l a x) (items_outside l rest x) t))
         (λ x e. elim (c x e) [ inl d ↦ inl d | inr d ↦ inr (and_parts (certain l a x) (items_certain l rest x) d).1 ]) A o
 
-    local_default : {m : _} (items : stmt.Row_of-CaseItem E m) (k : ℕ) (D X : Spot → Type 0) (p q : State) → ((x : Spot) → items_outside l items x ≡ true → D x) → ((x : Spot) → X x → With D (items_certain l items) x) → (has_default l items ≡ true) ⊎ ((x : Spot) → X x → D x) → Alike D p q → Alike X (default_of l u items k p) (default_of l u items k q)
-    local_default stmt.end_of-CaseItem k D X p q h c o A = elim o [ inl t ↦ absurd (not_both false t refl) | inr f ↦ alike_less D X p q f A ]
-    local_default (stmt.more_of-CaseItem (item.Values' ps _ (stmt.more_of-Stmt a _)) rest) k D X p q h c o A =
-        local_default rest (k + pattern_sites l ps + stmt_sites l a) D X p q
+    local_default : {m : _} (items : stmt.Row_of-CaseItem E m) (W : ℕ) (k : ℕ) (D X : Spot → Type 0) (p q : State) → ((x : Spot) → items_outside l items x ≡ true → D x) → ((x : Spot) → X x → With D (items_certain l items) x) → (has_default l items ≡ true) ⊎ ((x : Spot) → X x → D x) → Alike D p q → Alike X (default_of l u W items k p) (default_of l u W items k q)
+    local_default stmt.end_of-CaseItem W k D X p q h c o A = elim o [ inl t ↦ absurd (not_both false t refl) | inr f ↦ alike_less D X p q f A ]
+    local_default (stmt.more_of-CaseItem (item.Values' ps _ (stmt.more_of-Stmt a _)) rest) W k D X p q h c o A =
+        local_default rest W (k + pattern_sites l W ps + stmt_sites l a) D X p q
         (λ x t. h x (or_right (outside l a x) (items_outside l rest x) t))
         (λ x e. elim (c x e) [ inl d ↦ inl d | inr d ↦ inr (and_parts (certain l a x) (items_certain l rest x) d).1 ]) o A
-    local_default (stmt.more_of-CaseItem (item.Default' place _ (stmt.more_of-Stmt a _)) rest) k D X p q h c o A =
+    local_default (stmt.more_of-CaseItem (item.Default' place _ (stmt.more_of-Stmt a _)) rest) W k D X p q h c o A =
         alike_less (With D (certain l a)) X _ _ (λ x e. elim (c x e) [ inl d ↦ inl d | inr d ↦ inr (and_parts (certain l a x) (items_certain l rest x) d).0 ])
         (local a k D p q (λ x t. h x (or_left (outside l a x) (items_outside l rest x) t)) A)

@@ -1,5 +1,5 @@
 -- What processes do to a view (IEEE 1364-2005, clause 9).
-use Rattle.std.specs.Prelude.{ℕ, zero, suc, ◌+◌, ◌-◌, max, List, [], ◌∷◌, ◌++◌, length, Option, Bool, true, false, not, nat_lt, ◌&&◌, ◌||◌, if◌then◌else◌, pos, ◌-ℤ◌}
+use Rattle.std.specs.Prelude.{ℕ, zero, suc, ◌+◌, ◌-◌, max, List, [], ◌∷◌, ◌++◌, Option, Bool, true, false, not, nat_lt, ◌&&◌, ◌||◌, if◌then◌else◌, pos, ◌-ℤ◌}
 use Rattle.v_tree.specs.declared.stmt.AssignmentKind.{AssignmentKind}
 use Rattle.v_tree.specs.declared.stmt.AssignmentKind.TheVariants.{Blocking, Nonblocking}
 use Rattle.v_views.specs.declared.Selection.{Selection}
@@ -12,7 +12,7 @@ use Rattle.v_views.specs.declared.Stmt as stmt
 use Rattle.v_views.specs.declared.CaseItem.{CaseItem}
 use Rattle.v_views.specs.declared.CaseItem as item
 use Rattle.v_views.specs.Spots.{Spot, View, bit_of, BitWrite, written, spread, range_at, bits_at, word_at}
-use Rattle.v_views.specs.Language.{Language, own, index}
+use Rattle.v_views.specs.Language.{Language, own, own_sites, index}
 
 abbrev pub eq_bool : Bool → Bool → Bool
 eq_bool true b = b
@@ -36,10 +36,10 @@ module _ {E : Type 0} (l : Language E) where
   -- how many sites the indexes of a selection have
   abbrev pub selection_sites : Selection E → ℕ
   selection_sites selection.Whole = 0
-  selection_sites (selection.Bit i) = l.sites i
+  selection_sites (selection.Bit i) = own_sites l i
   selection_sites (selection.Part high low) = 0
-  selection_sites (selection.Up i width) = l.sites i
-  selection_sites (selection.Down i width) = l.sites i
+  selection_sites (selection.Up i width) = own_sites l i
+  selection_sites (selection.Down i width) = own_sites l i
 
   abbrev mutual
     pub target_sites : Target E → ℕ
@@ -49,28 +49,6 @@ module _ {E : Type 0} (l : Language E) where
     pub target_row_sites : {m : _} → target.Row_of-Target E m → ℕ
     target_row_sites target.end_of-Target = 0
     target_row_sites (target.more_of-Target t rest) = target_sites t + target_row_sites rest
-
-  abbrev pub pattern_sites : List (Pattern E) → ℕ
-  pattern_sites [] = 0
-  pattern_sites (p ∷ ps) = l.sites p.value + pattern_sites ps
-
-  -- how many sites a statement has; they are numbered in the order of the text
-  abbrev mutual
-    pub stmt_sites : Stmt E → ℕ
-    stmt_sites (stmt.Block' p _ body) = row_sites body
-    stmt_sites (stmt.If' p e _ (stmt.more_of-Stmt a _)) = l.sites e + stmt_sites a
-    stmt_sites (stmt.IfElse' p e _ (stmt.more_of-Stmt a _) _ (stmt.more_of-Stmt b _)) = l.sites e + (stmt_sites a + stmt_sites b)
-    stmt_sites (stmt.Case' p e _ items) = l.sites e + item_sites items
-    stmt_sites (stmt.Assignment p kind t e) = target_sites t + l.sites e
-
-    pub row_sites : {m : _} → stmt.Row_of-Stmt E m → ℕ
-    row_sites stmt.end_of-Stmt = 0
-    row_sites (stmt.more_of-Stmt a rest) = stmt_sites a + row_sites rest
-
-    pub item_sites : {m : _} → stmt.Row_of-CaseItem E m → ℕ
-    item_sites stmt.end_of-CaseItem = 0
-    item_sites (stmt.more_of-CaseItem (item.Values' ps _ (stmt.more_of-Stmt a _)) rest) = pattern_sites ps + (stmt_sites a + item_sites rest)
-    item_sites (stmt.more_of-CaseItem (item.Default' p _ (stmt.more_of-Stmt a _)) rest) = stmt_sites a + item_sites rest
 
   -- the expression and all items of a case have the greatest length, and are signed only if all are (9.5)
   abbrev pub longest : ℕ → List (Pattern E) → ℕ
@@ -90,6 +68,49 @@ module _ {E : Type 0} (l : Language E) where
   case_signed s stmt.end_of-CaseItem = s
   case_signed s (stmt.more_of-CaseItem (item.Values' ps _ a) rest) = case_signed (all_signed s ps) rest
   case_signed s (stmt.more_of-CaseItem (item.Default' p _ a) rest) = case_signed s rest
+
+  -- the length of what a selection of a signal names
+  abbrev pub selection_length : ℕ → Selection E → ℕ
+  selection_length g selection.Whole = (l.shape g).bits
+  selection_length g (selection.Bit i) = if nat_lt 0 (l.shape g).words then (l.shape g).bits else 1
+  selection_length g (selection.Part high low) = high - low + 1
+  selection_length g (selection.Up i width) = width
+  selection_length g (selection.Down i width) = width
+
+  abbrev mutual
+    pub target_length : Target E → ℕ
+    target_length (target.Signal p g s) = selection_length g s
+    target_length (target.Concatenation' p _ parts) = target_row_length parts
+
+    pub target_row_length : {m : _} → target.Row_of-Target E m → ℕ
+    target_row_length target.end_of-Target = 0
+    target_row_length (target.more_of-Target t rest) = target_length t + target_row_length rest
+
+  -- the right side of an assignment is evaluated at the greater of the two lengths (5.4.1)
+  abbrev pub assignment_length : Target E → E → ℕ
+  assignment_length t e = max (target_length t) (l.length e)
+
+  abbrev pub pattern_sites : ℕ → List (Pattern E) → ℕ
+  pattern_sites w [] = 0
+  pattern_sites w (p ∷ ps) = l.sites p.value w + pattern_sites w ps
+
+  -- how many sites a statement has; they are numbered in the order of the text
+  abbrev mutual
+    pub stmt_sites : Stmt E → ℕ
+    stmt_sites (stmt.Block' p _ body) = row_sites body
+    stmt_sites (stmt.If' p e _ (stmt.more_of-Stmt a _)) = own_sites l e + stmt_sites a
+    stmt_sites (stmt.IfElse' p e _ (stmt.more_of-Stmt a _) _ (stmt.more_of-Stmt b _)) = own_sites l e + (stmt_sites a + stmt_sites b)
+    stmt_sites (stmt.Case' p e _ items) = let w = case_length (l.length e) items in l.sites e w + item_sites w items
+    stmt_sites (stmt.Assignment p kind t e) = target_sites t + l.sites e (assignment_length t e)
+
+    pub row_sites : {m : _} → stmt.Row_of-Stmt E m → ℕ
+    row_sites stmt.end_of-Stmt = 0
+    row_sites (stmt.more_of-Stmt a rest) = stmt_sites a + row_sites rest
+
+    pub item_sites : {m : _} → ℕ → stmt.Row_of-CaseItem E m → ℕ
+    item_sites w stmt.end_of-CaseItem = 0
+    item_sites w (stmt.more_of-CaseItem (item.Values' ps _ (stmt.more_of-Stmt a _)) rest) = pattern_sites w ps + (stmt_sites a + item_sites w rest)
+    item_sites w (stmt.more_of-CaseItem (item.Default' p _ (stmt.more_of-Stmt a _)) rest) = stmt_sites a + item_sites w rest
 
   module _ (u : ℕ → ℕ) where
     -- the places that a selection of a signal names, the highest first
@@ -118,7 +139,7 @@ module _ {E : Type 0} (l : Language E) where
     abbrev pub writes : Target E → E → View → ℕ → List BitWrite
     writes t e v k =
         let to = places t v k in
-        spread to (l.value e v u (max (length to) (l.length e)) (l.signed e) (k + target_sites t))
+        spread to (l.value e v u (assignment_length t e) (l.signed e) (k + target_sites t))
 
     -- whether a condition isn't 0 (9.4)
     abbrev pub holds : E → View → ℕ → Bool
@@ -127,18 +148,18 @@ module _ {E : Type 0} (l : Language E) where
     -- whether one of the values of an item matches, all at one width and sign (9.5)
     abbrev pub hits : ℕ → Bool → ℕ → List (Pattern E) → View → ℕ → Bool
     hits w sign n [] v k = false
-    hits w sign n (p ∷ ps) v k = matches w p.loose.value n (l.value p.value v u w sign k) || hits w sign n ps v (k + l.sites p.value)
+    hits w sign n (p ∷ ps) v k = matches w p.loose.value n (l.value p.value v u w sign k) || hits w sign n ps v (k + l.sites p.value w)
 
     abbrev mutual
       pub run : Stmt E → ℕ → State → State
       run (stmt.Block' p _ body) k s = run_row body k s
-      run (stmt.If' p e _ (stmt.more_of-Stmt a _)) k s = if holds e s.view k then run a (k + l.sites e) s else s
+      run (stmt.If' p e _ (stmt.more_of-Stmt a _)) k s = if holds e s.view k then run a (k + own_sites l e) s else s
       run (stmt.IfElse' p e _ (stmt.more_of-Stmt a _) _ (stmt.more_of-Stmt b _)) k s =
-          if holds e s.view k then run a (k + l.sites e) s else run b (k + l.sites e + stmt_sites a) s
+          if holds e s.view k then run a (k + own_sites l e) s else run b (k + own_sites l e + stmt_sites a) s
       run (stmt.Case' p e _ items) k s =
           let w = case_length (l.length e) items in
           let sign = case_signed (l.signed e) items in
-          first_match w sign (l.value e s.view u w sign k) items (k + l.sites e) s (default_of items (k + l.sites e) s)
+          first_match w sign (l.value e s.view u w sign k) items (k + l.sites e w) s (default_of w items (k + l.sites e w) s)
       run (stmt.Assignment p kind t e) k s = assigned kind (writes t e s.view k) s
 
       pub run_row : {m : _} → stmt.Row_of-Stmt E m → ℕ → State → State
@@ -150,13 +171,13 @@ module _ {E : Type 0} (l : Language E) where
       first_match w sign n stmt.end_of-CaseItem k s other = other
       first_match w sign n (stmt.more_of-CaseItem (item.Values' ps _ (stmt.more_of-Stmt a _)) rest) k s other =
           if hits w sign n ps s.view k
-          then run a (k + pattern_sites ps) s
-          else first_match w sign n rest (k + pattern_sites ps + stmt_sites a) s other
+          then run a (k + pattern_sites w ps) s
+          else first_match w sign n rest (k + pattern_sites w ps + stmt_sites a) s other
       first_match w sign n (stmt.more_of-CaseItem (item.Default' p _ (stmt.more_of-Stmt a _)) rest) k s other =
           first_match w sign n rest (k + stmt_sites a) s other
 
       -- what the default makes of a state, wherever it stands; without default nothing happens
-      pub default_of : {m : _} → stmt.Row_of-CaseItem E m → ℕ → State → State
-      default_of stmt.end_of-CaseItem k s = s
-      default_of (stmt.more_of-CaseItem (item.Values' ps _ (stmt.more_of-Stmt a _)) rest) k s = default_of rest (k + pattern_sites ps + stmt_sites a) s
-      default_of (stmt.more_of-CaseItem (item.Default' p _ (stmt.more_of-Stmt a _)) rest) k s = run a k s
+      pub default_of : {m : _} → ℕ → stmt.Row_of-CaseItem E m → ℕ → State → State
+      default_of w stmt.end_of-CaseItem k s = s
+      default_of w (stmt.more_of-CaseItem (item.Values' ps _ (stmt.more_of-Stmt a _)) rest) k s = default_of w rest (k + pattern_sites w ps + stmt_sites a) s
+      default_of w (stmt.more_of-CaseItem (item.Default' p _ (stmt.more_of-Stmt a _)) rest) k s = run a k s
