@@ -10,3 +10,4 @@ pub mod Weights
 pub mod Weighed
 pub mod WellFormed
 pub mod Machine
+pub mod Naming

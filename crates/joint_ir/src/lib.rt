@@ -10,6 +10,7 @@ pub mod event;
 pub mod expr;
 pub mod lookup;
 pub mod module;
+pub mod naming;
 pub mod pair;
 pub mod program;
 pub mod stmt;
@@ -20,6 +21,7 @@ pub use ctype::IntType;
 pub use event::{Choices, Event, EventList, Outcome, Shown, ShownList};
 pub use expr::{BinaryOp, LogicOp, Slot, TExpr, TExprList, TNode, UnaryOp};
 pub use module::{FirstList, FlatModule, Role, Signal, SignalList, Site, SiteList};
+pub use naming::{NamedLimit, NamedLimitList, limits};
 pub use pair::{Binding, Link, LinkList, Pair};
 pub use program::{
     CProgram, Function, FunctionList, Member, MemberList, MirrorDecl, Prop, PropId, PropKind,

@@ -64,6 +64,17 @@ pub fn recursion(program: &CProgram, function: &Function) -> PropId
     PropId(0)
 }
 
+/// The limit of a function, in activations at one time. Where no property has a limit of its own, none is searched for.
+pub fn function_limit(bounds: &Bounds, program: &CProgram, function: &Function) -> u32
+    requires { length program.now.props < 2 ^ 32 }
+    ensures { result ≡ limit_of bounds.now (recursion_prop program.now function.now) }
+{
+    if bounds.limits.len() == 0 {
+        return bounds.unwind;
+    }
+    limit(bounds, recursion(program, function))
+}
+
 fn var_type(var: Option<&Var>) -> IntType
     ensures { result ≡ type_of_var (option_copied var.entry) }
 {

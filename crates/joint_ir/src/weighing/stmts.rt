@@ -217,7 +217,7 @@ fn is_below(at: &Scale, standing: &[u32], f: u32, function: &Function) -> bool
     ensures { result ≡ is_below_limit at.now.pair.now at.now.bounds.now standing.now f function.now }
 {
     let stands = standing.iter().filter(|g| **g == f).count();
-    let limit = lookup::limit(at.bounds, lookup::recursion(&at.pair.program, function));
+    let limit = lookup::function_limit(at.bounds, &at.pair.program, function);
     stands < limit as usize
 }
 
