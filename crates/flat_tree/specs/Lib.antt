@@ -1,0 +1,4 @@
+pub mod Operators
+pub mod Selects
+pub mod Values
+pub mod Measures
