@@ -1,7 +1,10 @@
 -- The table passes the tests, by computation.
 use Rattle.std.proofs.Common.{◌≡◌, true, refl}
 use Rattle.ll_parse.specs.Conditions.{IsLl}
+use Rattle.ll_parse.specs.Productions.{HasProductions}
 use Rattle.ll_parse.specs.Test.{is_ll}
+use Rattle.c_grammar.specs.Productions.{PRODUCTIONS}
+use Rattle.c_grammar.specs.Symbols.{FIRST_ACTION}
 use Rattle.ll_parse.proofs.Fits.{fits}
 use Rattle.ll_actions.specs.After.{are_placed}
 use Rattle.ll_actions.specs.Sorts.{is_typed}
@@ -24,3 +27,8 @@ c_is_typed = refl
 pub c_is_placed : are_placed TABLE MARKS AFTER SPOTS ≡ true
 unfolding TABLE AFTER SPOTS
 c_is_placed = refl
+
+-- the table has the productions of the profile
+pub has_productions : HasProductions TABLE FIRST_ACTION PRODUCTIONS
+unfolding TABLE PRODUCTIONS
+has_productions = record { productions = refl; actions = refl }

@@ -46,6 +46,7 @@ use Rattle.ll_actions.specs.Sorts.{Signature, Effect}
 -- sort 41: UnaryMark
 -- sort 42: BinaryMark
 
+-- the signature of each action
 unfoldable pub SIGNATURES : List Signature
 SIGNATURES =
     record { takes = 0 ∷ []; gives = 1 } ∷  -- 0, file: Externals -> Tree
@@ -206,6 +207,7 @@ SIGNATURES =
     record { takes = []; gives = 39 } ∷  -- 155, decrement: -> StepMark
     []
 
+-- the effect of each nonterminal
 unfoldable pub EFFECTS : List Effect
 EFFECTS =
     record { takes = []; gives = 1 ∷ [] } ∷  -- 256, File: -> Tree
@@ -479,6 +481,7 @@ EFFECTS =
     record { takes = 17 ∷ 3 ∷ []; gives = 17 ∷ [] } ∷  -- 524, {parentheses}: Place Expression -> Expression
     []
 
+-- the kinds of token that each action comes right after, if it makes a value of one
 unfoldable pub AFTER : List (List ℕ)
 AFTER =
     ([]) ∷  -- 0, file
@@ -639,5 +642,6 @@ AFTER =
     (76 ∷ []) ∷  -- 155, decrement
     []
 
+-- for each nonterminal one more than the action that it is, if that is one on a token
 unfoldable pub SPOTS : List ℕ
 SPOTS = 0 ∷ 0 ∷ 0 ∷ 0 ∷ 0 ∷ 0 ∷ 0 ∷ 0 ∷ 0 ∷ 0 ∷ 0 ∷ 0 ∷ 0 ∷ 0 ∷ 0 ∷ 0 ∷ 0 ∷ 0 ∷ 0 ∷ 0 ∷ 0 ∷ 0 ∷ 0 ∷ 0 ∷ 0 ∷ 0 ∷ 0 ∷ 0 ∷ 0 ∷ 0 ∷ 0 ∷ 0 ∷ 0 ∷ 0 ∷ 0 ∷ 0 ∷ 0 ∷ 0 ∷ 0 ∷ 0 ∷ 0 ∷ 0 ∷ 0 ∷ 0 ∷ 0 ∷ 0 ∷ 0 ∷ 0 ∷ 0 ∷ 0 ∷ 0 ∷ 0 ∷ 0 ∷ 0 ∷ 0 ∷ 0 ∷ 0 ∷ 0 ∷ 0 ∷ 0 ∷ 0 ∷ 0 ∷ 0 ∷ 0 ∷ 0 ∷ 0 ∷ 0 ∷ 0 ∷ 0 ∷ 0 ∷ 0 ∷ 0 ∷ 0 ∷ 0 ∷ 0 ∷ 0 ∷ 0 ∷ 0 ∷ 0 ∷ 0 ∷ 0 ∷ 0 ∷ 0 ∷ 0 ∷ 0 ∷ 0 ∷ 0 ∷ 0 ∷ 0 ∷ 120 ∷ 122 ∷ 0 ∷ 0 ∷ 14 ∷ 0 ∷ 121 ∷ 0 ∷ 0 ∷ 0 ∷ 0 ∷ 0 ∷ 0 ∷ 0 ∷ 0 ∷ 0 ∷ 0 ∷ 0 ∷ 0 ∷ 0 ∷ 0 ∷ 0 ∷ 0 ∷ 0 ∷ 0 ∷ 0 ∷ 0 ∷ 0 ∷ 0 ∷ 0 ∷ 0 ∷ 0 ∷ 0 ∷ 0 ∷ 0 ∷ 0 ∷ 0 ∷ 0 ∷ 0 ∷ 0 ∷ 0 ∷ 0 ∷ 0 ∷ 0 ∷ 0 ∷ 0 ∷ 0 ∷ 0 ∷ 0 ∷ 0 ∷ 0 ∷ 43 ∷ 58 ∷ 0 ∷ 0 ∷ 0 ∷ 0 ∷ 48 ∷ 49 ∷ 50 ∷ 51 ∷ 52 ∷ 53 ∷ 54 ∷ 55 ∷ 56 ∷ 57 ∷ 0 ∷ 0 ∷ 0 ∷ 0 ∷ 0 ∷ 0 ∷ 0 ∷ 0 ∷ 0 ∷ 0 ∷ 0 ∷ 0 ∷ 0 ∷ 0 ∷ 0 ∷ 0 ∷ 0 ∷ 0 ∷ 0 ∷ 0 ∷ 0 ∷ 0 ∷ 0 ∷ 0 ∷ 0 ∷ 0 ∷ 0 ∷ 0 ∷ 0 ∷ 0 ∷ 0 ∷ 0 ∷ 0 ∷ 0 ∷ 0 ∷ 0 ∷ 0 ∷ 0 ∷ 0 ∷ 0 ∷ 0 ∷ 0 ∷ 0 ∷ 0 ∷ 0 ∷ 0 ∷ 0 ∷ 0 ∷ 0 ∷ 155 ∷ 156 ∷ 0 ∷ 0 ∷ 0 ∷ 0 ∷ 0 ∷ 145 ∷ 146 ∷ 147 ∷ 148 ∷ 149 ∷ 150 ∷ 151 ∷ 152 ∷ 153 ∷ 154 ∷ 0 ∷ 0 ∷ 0 ∷ 0 ∷ 0 ∷ 0 ∷ 144 ∷ 0 ∷ 143 ∷ 0 ∷ 142 ∷ 0 ∷ 141 ∷ 0 ∷ 140 ∷ 0 ∷ 0 ∷ 0 ∷ 0 ∷ 0 ∷ 0 ∷ 138 ∷ 139 ∷ 134 ∷ 135 ∷ 136 ∷ 137 ∷ 132 ∷ 133 ∷ 130 ∷ 131 ∷ 127 ∷ 128 ∷ 129 ∷ 0 ∷ 0 ∷ 0 ∷ 111 ∷ 112 ∷ 113 ∷ 114 ∷ 123 ∷ 124 ∷ 125 ∷ 126 ∷ 0 ∷ 0 ∷ []

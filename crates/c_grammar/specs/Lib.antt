@@ -1,2 +1,4 @@
 pub mod Table
 pub mod Actions
+pub mod Symbols
+pub mod Productions

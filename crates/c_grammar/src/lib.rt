@@ -1,17 +1,44 @@
-//! The grammar of the C profile as a table, which is LL(1), with its actions.
+//! The grammar of the C profile as a table, which is LL(1), with the actions that build the tree.
 //!
-//! `grammars/c.actions` has the productions to read and `grammars/c.sorts` the actions; `ll_parse/tools/table.py` made
-//! the numbers below from them, and the tests of the table check them. The kinds of token are those of `TokenKind` in
-//! `c_tokens`.
+//! `specs/Productions.antt` is the grammar to read, beside docs/C_PROFILE.md; the contract of `table` ties the table
+//! to it. `grammars/c.actions` has the productions with their actions and `grammars/c.sorts` what each action
+//! takes and gives; `grammars/generate.py` makes this file of both, and the tests of the table check it. The kinds of
+//! token are those of `TokenKind` in `c_tokens`.
 #![tactic(auto)]
 
 ghost use Rattle.std.specs.Prelude.{◌≡◌};
-ghost use Rattle.ll_parse.specs.Tables.{lists_of};
 ghost use Rattle.ll_parse.specs.Conditions.{IsLl};
+ghost use Rattle.ll_parse.specs.Productions.{HasProductions};
+ghost use Rattle.ll_parse.specs.Tables.{lists_of};
+ghost use Rattle.c_grammar.specs.Productions.{PRODUCTIONS};
+ghost use Rattle.c_grammar.specs.Symbols.{FIRST_ACTION};
 ghost use Rattle.c_grammar.specs.Table.{TABLE};
 
 use ll_parse::Table;
 use node_depth::Weave;
+
+/// The table of the C profile: its productions are those of `PRODUCTIONS`, with the actions in their bodies, and
+/// one token ahead decides between them.
+pub fn table() -> Table
+    ensures is { lists_of result ≡ TABLE }
+    ensures ll { IsLl (lists_of result) }
+    ensures productions { HasProductions (lists_of result) FIRST_ACTION PRODUCTIONS }
+{
+    Table {
+        start: 256,
+        heads: &HEADS,
+        bodies: &BODIES,
+        symbols: &SYMBOLS,
+        not_before: &NOT_BEFORE,
+        rows: &ROWS,
+        follows: &FOLLOWS,
+        witnesses: &WITNESSES,
+        ranks: &RANKS,
+        costs: &COSTS,
+        nullable: &NULLABLE,
+        per_token: 26,
+    }
+}
 
 // 0: File = Externals {file}
 // 1: Externals = External {one_external} MoreExternals
@@ -412,6 +439,8 @@ use node_depth::Weave;
 // 396: {cast} =  does cast
 // 397: {parentheses} =  does parentheses
 // the start symbol is 256, and each token pays for 26 productions
+
+/// The head of each production.
 static HEADS: [u16; 398] = [
     256, 257, 257, 258, 258, 259, 259, 259, 259, 259, 259, 260, 260, 260, 260, 261, 261, 261, 262,
     262, 263, 264, 264, 265, 265, 266, 266, 267, 268, 268, 269, 269, 270, 270, 271, 271, 271, 272,
@@ -436,6 +465,7 @@ static HEADS: [u16; 398] = [
     507, 508, 509, 510, 511, 512, 513, 514, 515, 516, 517, 518, 519, 520, 521, 522, 523, 524,
 ];
 
+/// Where each body begins in `SYMBOLS`, and where the last one ends.
 static BODIES: [u16; 399] = [
     0, 2, 5, 5, 8, 8, 19, 22, 25, 36, 41, 48, 55, 61, 67, 74, 84, 88, 94, 97, 102, 106, 108, 110,
     113, 113, 119, 129, 132, 136, 136, 140, 140, 145, 145, 147, 150, 150, 154, 154, 159, 162, 165,
@@ -460,6 +490,7 @@ static BODIES: [u16; 399] = [
     687, 687, 687, 687, 687, 687, 687, 687, 687, 687, 687, 687, 687, 687,
 ];
 
+/// The bodies, one after the other.
 static SYMBOLS: [u16; 687] = [
     257, 342, 259, 343, 258, 259, 344, 258, 5, 345, 1, 346, 81, 266, 347, 265, 82, 83, 348, 6, 345,
     260, 7, 349, 261, 350, 8, 345, 283, 1, 351, 277, 352, 275, 83, 353, 354, 283, 1, 351, 262, 355,
@@ -497,6 +528,7 @@ static SYMBOLS: [u16; 687] = [
     40, 517, 41, 518, 42, 519, 43, 520, 47, 521, 48, 522, 283, 78, 338, 523, 311, 78, 524,
 ];
 
+/// The kind of token before which each production isn't used, or 255.
 static NOT_BEFORE: [u16; 398] = [
     255, 255, 255, 255, 255, 255, 255, 255, 255, 255, 255, 255, 255, 255, 255, 255, 255, 255, 255,
     255, 255, 255, 255, 255, 255, 255, 255, 255, 255, 255, 255, 255, 255, 255, 255, 255, 255, 255,
@@ -521,6 +553,7 @@ static NOT_BEFORE: [u16; 398] = [
     255, 255, 255, 255, 255, 255, 255, 255, 255, 255, 255, 255, 255, 255, 255, 255, 255, 255,
 ];
 
+/// For each nonterminal and each kind of the next token one more than the production to use, or 0.
 static ROWS: [[u16; 128]; 269] = [
     [
         1, 0, 0, 0, 0, 1, 1, 1, 1, 1, 1, 1, 1, 1, 1, 1, 1, 1, 1, 1, 1, 1, 1, 1, 1, 1, 0, 0, 0, 0,
@@ -2435,6 +2468,7 @@ static ROWS: [[u16; 128]; 269] = [
     ],
 ];
 
+/// For each nonterminal and each kind 1 where such a token may follow it.
 static FOLLOWS: [[u8; 128]; 269] = [
     [
         1, 0, 0, 0, 0, 0, 0, 0, 0, 0, 0, 0, 0, 0, 0, 0, 0, 0, 0, 0, 0, 0, 0, 0, 0, 0, 0, 0, 0, 0,
@@ -4321,6 +4355,7 @@ static FOLLOWS: [[u8; 128]; 269] = [
     ],
 ];
 
+/// For each nonterminal a production by which it comes to an end.
 static WITNESSES: [u16; 269] = [
     0, 2, 4, 5, 11, 15, 19, 20, 21, 24, 26, 27, 29, 31, 33, 36, 38, 39, 42, 44, 45, 48, 50, 52, 54,
     55, 57, 59, 74, 80, 82, 84, 86, 89, 90, 93, 107, 109, 111, 113, 115, 117, 119, 122, 125, 127,
@@ -4338,6 +4373,7 @@ static WITNESSES: [u16; 269] = [
     384, 385, 386, 387, 388, 389, 390, 391, 392, 393, 394, 395, 396, 397,
 ];
 
+/// The nonterminals in the body of a witness have a lower rank than its head.
 static RANKS: [u16; 269] = [
     2, 1, 1, 3, 2, 3, 2, 3, 2, 1, 2, 2, 1, 1, 1, 1, 1, 3, 1, 1, 2, 1, 1, 1, 1, 3, 2, 2, 2, 1, 1, 1,
     2, 1, 3, 2, 1, 3, 2, 1, 1, 1, 1, 2, 2, 2, 3, 2, 2, 3, 2, 1, 1, 2, 1, 3, 3, 3, 3, 3, 3, 3, 3, 3,
@@ -4350,6 +4386,7 @@ static RANKS: [u16; 269] = [
     1, 1, 1, 1, 1, 1, 1, 1, 1, 1, 1, 1, 1,
 ];
 
+/// How many productions each nonterminal may use, besides those that its tokens pay for.
 static COSTS: [u16; 269] = [
     9, 7, 7, 6, 6, 5, 5, 1, 3, 6, 5, 3, 1, 1, 1, 8, 1, 7, 1, 1, 3, 1, 1, 3, 28, 28, 26, 4, 2, 1, 1,
     1, 1, 7, 5, 6, 1, 7, 4, 4, 28, 29, 2, 8, 7, 1, 3, 2, 8, 5, 2, 28, 1, 4, 1, 27, 6, 9, 12, 15,
@@ -4362,6 +4399,7 @@ static COSTS: [u16; 269] = [
     1, 1, 1, 1, 1, 1, 1, 1, 1, 1, 1, 1, 1, 1, 1, 1, 1, 1, 1, 1,
 ];
 
+/// Whether each nonterminal may stand for nothing.
 static NULLABLE: [bool; 269] = [
     true, true, true, false, false, false, false, false, false, true, false, false, true, true,
     true, true, true, false, true, true, false, true, true, true, true, false, true, false, false,
@@ -4538,7 +4576,8 @@ static NULLABLE: [bool; 269] = [
 // action 153: shift_right_by
 // action 154: increment
 // action 155: decrement
-/// One more than the action of each production, or 0.
+
+/// For each production, 0 or one more than the number of its action.
 pub static MARKS: [u16; 398] = [
     0, 0, 2, 0, 0, 0, 0, 0, 0, 0, 0, 0, 0, 0, 0, 0, 0, 0, 0, 0, 0, 0, 0, 0, 0, 0, 0, 0, 0, 24, 0,
     0, 0, 0, 0, 0, 28, 0, 0, 0, 0, 0, 33, 0, 0, 0, 0, 0, 37, 0, 39, 0, 0, 0, 0, 0, 0, 0, 0, 0, 0,
@@ -4557,7 +4596,8 @@ pub static MARKS: [u16; 398] = [
     138, 139, 134, 135, 136, 137, 132, 133, 130, 131, 127, 128, 129, 103, 110, 116, 111, 112, 113,
     114, 123, 124, 125, 126, 117, 115,
 ];
-/// What each action makes of the nodes of its parts.
+
+/// What each action makes of the nodes of the values that it takes, by the actions' numbers.
 pub static WEAVES: [Weave; 156] = [
     Weave {
         takes: 1,
@@ -5340,24 +5380,3 @@ pub static WEAVES: [Weave; 156] = [
         own: true,
     },
 ];
-
-/// The table of the C profile.
-pub fn table() -> Table
-    ensures is { lists_of result ≡ TABLE }
-    ensures ll { IsLl (lists_of result) }
-{
-    Table {
-        start: 256,
-        heads: &HEADS,
-        bodies: &BODIES,
-        symbols: &SYMBOLS,
-        not_before: &NOT_BEFORE,
-        rows: &ROWS,
-        follows: &FOLLOWS,
-        witnesses: &WITNESSES,
-        ranks: &RANKS,
-        costs: &COSTS,
-        nullable: &NULLABLE,
-        per_token: 26,
-    }
-}

@@ -1,5 +1,6 @@
 pub mod Grammar
 pub mod Tables
+pub mod Productions
 pub mod Conditions
 pub mod Test
 pub mod Machine

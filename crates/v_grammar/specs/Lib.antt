@@ -1,2 +1,4 @@
 pub mod Verilog
 pub mod Sorts
+pub mod Symbols
+pub mod Productions

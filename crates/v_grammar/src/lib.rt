@@ -1,17 +1,44 @@
 //! The grammar of the Verilog profile as a table, which is LL(1), with the actions that build the tree.
 //!
-//! `verilog.actions` has the productions to read, and `verilog.sorts` what each action takes and gives;
-//! `ll_parse/tools/table.py` made the numbers below from both, and the tests of the table check them. The kinds of token
-//! are those of `TokenKind` in `v_tokens`, and the actions are those of `v_actions`.
+//! `specs/Productions.antt` is the grammar to read, beside docs/VERILOG_PROFILE.md; the contract of `table` ties the table
+//! to it. `grammars/verilog.actions` has the productions with their actions and `grammars/verilog.sorts` what each action
+//! takes and gives; `grammars/generate.py` makes this file of both, and the tests of the table check it. The kinds of
+//! token are those of `TokenKind` in `v_tokens`.
 #![tactic(auto)]
 
 ghost use Rattle.std.specs.Prelude.{◌≡◌};
-ghost use Rattle.ll_parse.specs.Tables.{lists_of};
 ghost use Rattle.ll_parse.specs.Conditions.{IsLl};
+ghost use Rattle.ll_parse.specs.Productions.{HasProductions};
+ghost use Rattle.ll_parse.specs.Tables.{lists_of};
+ghost use Rattle.v_grammar.specs.Productions.{PRODUCTIONS};
+ghost use Rattle.v_grammar.specs.Symbols.{FIRST_ACTION};
 ghost use Rattle.v_grammar.specs.Verilog.{VERILOG};
 
 use ll_parse::Table;
 use node_depth::Weave;
+
+/// The table of the Verilog profile: its productions are those of `PRODUCTIONS`, with the actions in their bodies, and
+/// one token ahead decides between them.
+pub fn table() -> Table
+    ensures is { lists_of result ≡ VERILOG }
+    ensures ll { IsLl (lists_of result) }
+    ensures productions { HasProductions (lists_of result) FIRST_ACTION PRODUCTIONS }
+{
+    Table {
+        start: 256,
+        heads: &HEADS,
+        bodies: &BODIES,
+        symbols: &SYMBOLS,
+        not_before: &NOT_BEFORE,
+        rows: &ROWS,
+        follows: &FOLLOWS,
+        witnesses: &WITNESSES,
+        ranks: &RANKS,
+        costs: &COSTS,
+        nullable: &NULLABLE,
+        per_token: 35,
+    }
+}
 
 // 0: Source = {no_modules} Modules {source}
 // 1: Modules = Module {add_module} Modules
@@ -397,7 +424,9 @@ use node_depth::Weave;
 // 381: {first_expr} =  does first_expr
 // 382: {concatenation} =  does concatenation
 // 383: {replication} =  does replication
+// the start symbol is 256, and each token pays for 35 productions
 
+/// The head of each production.
 static HEADS: [u16; 384] = [
     256, 257, 257, 258, 259, 259, 260, 261, 261, 262, 262, 263, 263, 263, 264, 265, 266, 266, 267,
     268, 268, 269, 269, 270, 270, 270, 271, 272, 272, 273, 273, 274, 274, 275, 275, 275, 276, 276,
@@ -422,6 +451,7 @@ static HEADS: [u16; 384] = [
     526, 527, 528, 529,
 ];
 
+/// Where each body begins in `SYMBOLS`, and where the last one ends.
 static BODIES: [u16; 385] = [
     0, 3, 6, 6, 17, 23, 23, 29, 31, 32, 35, 38, 41, 43, 43, 48, 52, 56, 56, 63, 65, 65, 68, 68, 70,
     74, 74, 81, 83, 84, 87, 90, 92, 94, 96, 98, 98, 100, 100, 104, 108, 112, 112, 115, 115, 120,
@@ -445,6 +475,7 @@ static BODIES: [u16; 385] = [
     647, 647, 647, 647, 647, 647, 647, 647, 647, 647, 647, 647, 647, 647, 647, 647,
 ];
 
+/// The bodies, one after the other.
 static SYMBOLS: [u16; 647] = [
     358, 257, 359, 258, 360, 257, 20, 361, 1, 362, 259, 269, 65, 363, 285, 13, 364, 68, 59, 365,
     260, 261, 60, 23, 361, 263, 366, 264, 367, 66, 262, 368, 264, 369, 261, 370, 260, 261, 26, 267,
@@ -481,6 +512,7 @@ static SYMBOLS: [u16; 647] = [
     322, 64, 64, 529,
 ];
 
+/// The kind of token before which each production isn't used, or 255.
 static NOT_BEFORE: [u16; 384] = [
     255, 255, 255, 255, 255, 255, 255, 255, 255, 255, 255, 255, 255, 255, 255, 255, 255, 255, 255,
     255, 255, 255, 255, 255, 255, 255, 255, 255, 255, 255, 255, 255, 255, 255, 255, 255, 255, 255,
@@ -505,6 +537,7 @@ static NOT_BEFORE: [u16; 384] = [
     255, 255, 255, 255,
 ];
 
+/// For each nonterminal and each kind of the next token one more than the production to use, or 0.
 static ROWS: [[u16; 128]; 274] = [
     [
         1, 0, 0, 0, 0, 0, 0, 0, 0, 0, 0, 0, 0, 0, 0, 0, 0, 0, 0, 0, 1, 0, 0, 0, 0, 0, 0, 0, 0, 0,
@@ -2436,6 +2469,7 @@ static ROWS: [[u16; 128]; 274] = [
     ],
 ];
 
+/// For each nonterminal and each kind 1 where such a token may follow it.
 static FOLLOWS: [[u8; 128]; 274] = [
     [
         1, 0, 0, 0, 0, 0, 0, 0, 0, 0, 0, 0, 0, 0, 0, 0, 0, 0, 0, 0, 0, 0, 0, 0, 0, 0, 0, 0, 0, 0,
@@ -4357,6 +4391,7 @@ static FOLLOWS: [[u8; 128]; 274] = [
     ],
 ];
 
+/// For each nonterminal a production by which it comes to an end.
 static WITNESSES: [u16; 274] = [
     0, 2, 3, 5, 6, 8, 9, 13, 14, 15, 17, 18, 20, 22, 25, 26, 28, 29, 31, 35, 37, 38, 39, 41, 43,
     44, 46, 47, 49, 51, 52, 62, 64, 65, 68, 69, 71, 72, 74, 75, 77, 78, 81, 83, 85, 86, 88, 89, 90,
@@ -4374,6 +4409,7 @@ static WITNESSES: [u16; 274] = [
     369, 370, 371, 372, 373, 374, 375, 376, 377, 378, 379, 380, 381, 382, 383,
 ];
 
+/// The nonterminals in the body of a witness have a lower rank than its head.
 static RANKS: [u16; 274] = [
     2, 1, 2, 1, 6, 2, 6, 1, 5, 6, 1, 5, 1, 1, 1, 3, 2, 3, 2, 1, 1, 2, 3, 1, 1, 2, 1, 2, 1, 1, 3, 3,
     1, 2, 1, 6, 1, 5, 1, 3, 1, 2, 1, 1, 1, 2, 1, 3, 2, 2, 1, 1, 2, 1, 1, 1, 4, 1, 3, 1, 2, 2, 1, 1,
@@ -4386,6 +4422,7 @@ static RANKS: [u16; 274] = [
     1, 1, 1, 1, 1, 1, 1, 1, 1, 1, 1, 1, 1, 1, 1, 1, 1, 1,
 ];
 
+/// How many productions each nonterminal may use, besides those that its tokens pay for.
 static COSTS: [u16; 274] = [
     5, 2, 1, 1, 1, 2, 5, 2, 1, 5, 1, 1, 2, 1, 6, 3, 2, 8, 2, 1, 1, 4, 8, 1, 1, 5, 1, 5, 1, 4, 3, 8,
     1, 4, 2, 8, 1, 4, 1, 5, 1, 1, 30, 1, 1, 1, 29, 1, 2, 7, 2, 1, 4, 1, 5, 1, 70, 34, 33, 1, 2, 3,
@@ -4398,6 +4435,7 @@ static COSTS: [u16; 274] = [
     1, 1, 1, 1, 1, 1, 1, 1, 1, 1, 1, 1, 1, 1, 1, 1, 1, 1, 1, 1, 1, 1, 1, 1,
 ];
 
+/// Whether each nonterminal may stand for nothing.
 static NULLABLE: [bool; 274] = [
     true, true, false, true, false, true, false, true, false, false, true, false, true, true, true,
     false, true, false, false, true, true, false, false, true, true, false, true, false, true,
@@ -4418,26 +4456,6 @@ static NULLABLE: [bool; 274] = [
     true, true, true, true, true, true, true, true, true, true, true, true, true, true, true, true,
     true, true, true, true, true, true, true, true, true, true, true, true, true, true, true, true,
 ];
-
-/// For each production, 0 or one more than the number of its action.
-pub static MARKS: [u16; 384] = [
-    0, 0, 0, 0, 0, 142, 0, 0, 0, 0, 0, 0, 0, 89, 0, 0, 0, 0, 0, 0, 86, 0, 146, 0, 0, 147, 0, 0, 0,
-    0, 0, 0, 0, 0, 0, 102, 0, 104, 0, 0, 0, 0, 0, 60, 0, 0, 0, 0, 0, 0, 0, 0, 0, 0, 0, 0, 0, 0, 0,
-    0, 0, 0, 0, 0, 0, 0, 0, 0, 105, 0, 0, 0, 0, 0, 120, 0, 0, 0, 0, 0, 0, 116, 0, 0, 0, 0, 0, 0,
-    60, 0, 0, 0, 0, 0, 0, 0, 0, 0, 0, 0, 0, 0, 0, 0, 0, 0, 0, 71, 0, 0, 0, 75, 0, 0, 0, 0, 0, 0, 0,
-    0, 0, 0, 0, 0, 61, 0, 0, 0, 0, 0, 0, 53, 0, 0, 0, 0, 0, 0, 0, 0, 0, 0, 0, 0, 0, 0, 0, 0, 0, 0,
-    0, 0, 0, 0, 0, 0, 0, 0, 0, 0, 0, 0, 0, 0, 0, 0, 0, 0, 0, 0, 0, 0, 0, 0, 0, 0, 0, 0, 0, 0, 0, 0,
-    0, 0, 0, 0, 0, 0, 0, 0, 0, 0, 0, 0, 0, 0, 0, 0, 0, 0, 0, 0, 0, 0, 0, 0, 0, 40, 0, 43, 0, 0,
-    151, 153, 152, 2, 3, 140, 150, 142, 91, 92, 143, 92, 143, 87, 88, 90, 91, 92, 92, 84, 85, 148,
-    144, 149, 98, 99, 145, 99, 145, 7, 8, 100, 101, 103, 97, 98, 99, 99, 59, 93, 94, 94, 95, 4, 96,
-    96, 141, 130, 131, 132, 133, 134, 135, 136, 137, 138, 139, 108, 109, 109, 106, 107, 125, 126,
-    126, 124, 119, 122, 123, 123, 121, 111, 110, 112, 117, 114, 115, 118, 110, 112, 115, 113, 59,
-    127, 127, 128, 93, 94, 129, 94, 73, 72, 69, 77, 78, 83, 68, 70, 74, 76, 81, 82, 82, 79, 80, 66,
-    67, 64, 65, 63, 62, 65, 54, 55, 56, 1, 57, 57, 47, 19, 46, 20, 46, 21, 46, 46, 24, 46, 46, 46,
-    46, 46, 46, 22, 23, 25, 26, 27, 28, 29, 30, 31, 32, 33, 34, 35, 36, 37, 38, 39, 45, 9, 10, 11,
-    12, 13, 14, 15, 16, 17, 18, 5, 6, 41, 48, 51, 52, 42, 44, 58, 49, 50,
-];
-
 // action 0: no_exprs
 // action 1: place
 // action 2: name
@@ -4591,7 +4609,27 @@ pub static MARKS: [u16; 384] = [
 // action 150: no_modules
 // action 151: add_module
 // action 152: source
-/// What each action makes of the nodes of the values that it takes.
+
+/// For each production, 0 or one more than the number of its action.
+pub static MARKS: [u16; 384] = [
+    0, 0, 0, 0, 0, 142, 0, 0, 0, 0, 0, 0, 0, 89, 0, 0, 0, 0, 0, 0, 86, 0, 146, 0, 0, 147, 0, 0, 0,
+    0, 0, 0, 0, 0, 0, 102, 0, 104, 0, 0, 0, 0, 0, 60, 0, 0, 0, 0, 0, 0, 0, 0, 0, 0, 0, 0, 0, 0, 0,
+    0, 0, 0, 0, 0, 0, 0, 0, 0, 105, 0, 0, 0, 0, 0, 120, 0, 0, 0, 0, 0, 0, 116, 0, 0, 0, 0, 0, 0,
+    60, 0, 0, 0, 0, 0, 0, 0, 0, 0, 0, 0, 0, 0, 0, 0, 0, 0, 0, 71, 0, 0, 0, 75, 0, 0, 0, 0, 0, 0, 0,
+    0, 0, 0, 0, 0, 61, 0, 0, 0, 0, 0, 0, 53, 0, 0, 0, 0, 0, 0, 0, 0, 0, 0, 0, 0, 0, 0, 0, 0, 0, 0,
+    0, 0, 0, 0, 0, 0, 0, 0, 0, 0, 0, 0, 0, 0, 0, 0, 0, 0, 0, 0, 0, 0, 0, 0, 0, 0, 0, 0, 0, 0, 0, 0,
+    0, 0, 0, 0, 0, 0, 0, 0, 0, 0, 0, 0, 0, 0, 0, 0, 0, 0, 0, 0, 0, 0, 0, 0, 0, 40, 0, 43, 0, 0,
+    151, 153, 152, 2, 3, 140, 150, 142, 91, 92, 143, 92, 143, 87, 88, 90, 91, 92, 92, 84, 85, 148,
+    144, 149, 98, 99, 145, 99, 145, 7, 8, 100, 101, 103, 97, 98, 99, 99, 59, 93, 94, 94, 95, 4, 96,
+    96, 141, 130, 131, 132, 133, 134, 135, 136, 137, 138, 139, 108, 109, 109, 106, 107, 125, 126,
+    126, 124, 119, 122, 123, 123, 121, 111, 110, 112, 117, 114, 115, 118, 110, 112, 115, 113, 59,
+    127, 127, 128, 93, 94, 129, 94, 73, 72, 69, 77, 78, 83, 68, 70, 74, 76, 81, 82, 82, 79, 80, 66,
+    67, 64, 65, 63, 62, 65, 54, 55, 56, 1, 57, 57, 47, 19, 46, 20, 46, 21, 46, 46, 24, 46, 46, 46,
+    46, 46, 46, 22, 23, 25, 26, 27, 28, 29, 30, 31, 32, 33, 34, 35, 36, 37, 38, 39, 45, 9, 10, 11,
+    12, 13, 14, 15, 16, 17, 18, 5, 6, 41, 48, 51, 52, 42, 44, 58, 49, 50,
+];
+
+/// What each action makes of the nodes of the values that it takes, by the actions' numbers.
 pub static WEAVES: [Weave; 153] = [
     Weave {
         takes: 0,
@@ -5359,38 +5397,3 @@ pub static WEAVES: [Weave; 153] = [
         own: false,
     },
 ];
-
-/// The table of the Verilog profile.
-pub fn table() -> Table
-    ensures is { lists_of result ≡ VERILOG }
-    ensures ll { IsLl (lists_of result) }
-{
-    Table {
-        start: 256,
-        heads: &HEADS,
-        bodies: &BODIES,
-        symbols: &SYMBOLS,
-        not_before: &NOT_BEFORE,
-        rows: &ROWS,
-        follows: &FOLLOWS,
-        witnesses: &WITNESSES,
-        ranks: &RANKS,
-        costs: &COSTS,
-        nullable: &NULLABLE,
-        per_token: 35,
-    }
-}
-
-/// For each production, 0 or one more than the number of its action.
-pub fn marks() -> &'static [u16]
-    ensures { result.now ≡ MARKS }
-{
-    &MARKS
-}
-
-/// What each action makes of the nodes of the values that it takes, by the actions' numbers.
-pub fn weaves() -> &'static [Weave]
-    ensures { result.now ≡ WEAVES }
-{
-    &WEAVES
-}

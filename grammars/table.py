@@ -293,28 +293,31 @@ def antt_list(values):
     return "".join(f"{v} ∷ " for v in values) + "[]"
 
 
-def antt_statics(grammar, actions, prefix):
+def antt_statics(grammar, actions, prefix, parts=("SORTS", "AFTER")):
     found = effects(grammar, actions)
     after, own = comes_after(grammar, actions)
 
-    def definition(name, kind, items):
-        print(f"\nunfoldable pub {prefix}{name} : List {kind}\n{prefix}{name} =")
+    def definition(name, kind, items, about):
+        print(f"\n-- {about}\nunfoldable pub {prefix}{name} : List {kind}\n{prefix}{name} =")
         for item, note in items:
-            print(f"    {item} ∷ -- {note}")
+            print(f"    {item} ∷  -- {note}")
         print("    []")
 
-    for i, sort in enumerate(actions.sorts):
-        print(f"-- sort {i}: {sort}")
-    definition("SIGNATURES", "Signature", [
-        (f"record {{ takes = {antt_list(actions.takes[n])}; gives = {actions.gives[n]} }}",
-         f"{i}, {n}: {named(actions, (actions.takes[n], [actions.gives[n]]))}")
-        for i, n in enumerate(actions.names)])
-    definition("EFFECTS", "Effect", [
-        (f"record {{ takes = {antt_list(found[n][0])}; gives = {antt_list(found[n][1])} }}",
-         f"{FIRST_NONTERMINAL + i}, {n}: {named(actions, found[n])}")
-        for i, n in enumerate(grammar.names)])
-    definition("AFTER", "(List ℕ)", [(f"({antt_list(kinds)})", f"{i}, {n}") for i, (kinds, n) in enumerate(zip(after, actions.names))])
-    print(f"\nunfoldable pub {prefix}SPOTS : List ℕ\n{prefix}SPOTS = {antt_list(own)}")
+    if "SORTS" in parts:
+        for i, sort in enumerate(actions.sorts):
+            print(f"-- sort {i}: {sort}")
+        definition("SIGNATURES", "Signature", [
+            (f"record {{ takes = {antt_list(actions.takes[n])}; gives = {actions.gives[n]} }}",
+             f"{i}, {n}: {named(actions, (actions.takes[n], [actions.gives[n]]))}")
+            for i, n in enumerate(actions.names)], "the signature of each action")
+        definition("EFFECTS", "Effect", [
+            (f"record {{ takes = {antt_list(found[n][0])}; gives = {antt_list(found[n][1])} }}",
+             f"{FIRST_NONTERMINAL + i}, {n}: {named(actions, found[n])}")
+            for i, n in enumerate(grammar.names)], "the effect of each nonterminal")
+    if "AFTER" in parts:
+        definition("AFTER", "(List ℕ)", [(f"({antt_list(kinds)})", f"{i}, {n}") for i, (kinds, n) in enumerate(zip(after, actions.names))],
+                   "the kinds of token that each action comes right after, if it makes a value of one")
+        print(f"\n-- for each nonterminal one more than the action that it is, if that is one on a token\nunfoldable pub {prefix}SPOTS : List ℕ\n{prefix}SPOTS = {antt_list(own)}")
 
 
 def numbers(values):
@@ -338,37 +341,46 @@ def main(path, prefix, actions_path=None, antt=None):
     rows = [[cells[n][k] + 1 if k in cells[n] else 0 for k in range(WIDTH)] for n in names]
     allowed = [[1 if k in follows[n] else 0 for k in range(WIDTH)] for n in names]
 
-    def static(name, kind, values):
-        print(f"static {prefix}{name}: [{kind}; {len(values)}] = {numbers(values)};")
+    def static(name, kind, values, about):
+        print(f"\n/// {about}\n{'pub ' * (name in ('MARKS', 'WEAVES'))}static {prefix}{name}: [{kind}; {len(values)}] = {numbers(values)};")
 
     for p, (head, body, barred) in enumerate(productions):
         mark = grammar.marks[p]
         print(f"// {p}: {head} = " + " ".join(body) + (f" (not before {barred})" if barred else "") + (f" does {mark}" if mark else ""))
     print(f"// the start symbol is {FIRST_NONTERMINAL}, and each token pays for {per_token} productions")
-    static("HEADS", "u16", [grammar.symbol(h) for h, _, _ in productions])
-    static("BODIES", "u16", bodies)
-    static("SYMBOLS", "u16", symbols)
-    static("NOT_BEFORE", "u16", [grammar.kinds[b] if b else NO_KIND for _, _, b in productions])
-    static("ROWS", f"[u16; {WIDTH}]", [numbers(r) for r in rows])
-    static("FOLLOWS", f"[u8; {WIDTH}]", [numbers(r) for r in allowed])
-    static("WITNESSES", "u16", [witness[n] for n in names])
-    static("RANKS", "u16", [rank[n] for n in names])
-    static("COSTS", "u16", [cost[n] for n in names])
-    static("NULLABLE", "bool", ["true" if n in nullable else "false" for n in names])
+    static("HEADS", "u16", [grammar.symbol(h) for h, _, _ in productions],
+           "The head of each production.")
+    static("BODIES", "u16", bodies,
+           "Where each body begins in `SYMBOLS`, and where the last one ends.")
+    static("SYMBOLS", "u16", symbols,
+           "The bodies, one after the other.")
+    static("NOT_BEFORE", "u16", [grammar.kinds[b] if b else NO_KIND for _, _, b in productions],
+           "The kind of token before which each production isn't used, or 255.")
+    static("ROWS", f"[u16; {WIDTH}]", [numbers(r) for r in rows],
+           "For each nonterminal and each kind of the next token one more than the production to use, or 0.")
+    static("FOLLOWS", f"[u8; {WIDTH}]", [numbers(r) for r in allowed],
+           "For each nonterminal and each kind 1 where such a token may follow it.")
+    static("WITNESSES", "u16", [witness[n] for n in names],
+           "For each nonterminal a production by which it comes to an end.")
+    static("RANKS", "u16", [rank[n] for n in names],
+           "The nonterminals in the body of a witness have a lower rank than its head.")
+    static("COSTS", "u16", [cost[n] for n in names],
+           "How many productions each nonterminal may use, besides those that its tokens pay for.")
+    static("NULLABLE", "bool", ["true" if n in nullable else "false" for n in names],
+           "Whether each nonterminal may stand for nothing.")
     if not actions.names:
         return
     for a, name in enumerate(actions.names):
         print(f"// action {a}: {name}")
-    static("MARKS", "u16", [actions.mark(mark) for mark in grammar.marks])
+    static("MARKS", "u16", [actions.mark(mark) for mark in grammar.marks],
+           "For each production, 0 or one more than the number of its action.")
     _, own = comes_after(grammar, actions)
-    weaves = [(len(actions.takes.get(n, [])), actions.nodes.get(n, 0), actions.mark(n) in own) for n in actions.names]
-    for takes, nodes, is_own in sorted(set(weaves)):
-        print(f"const {weave_name(takes, nodes, is_own)}: Weave = Weave {{ takes: {takes}, nodes: {nodes}, own: {str(is_own).lower()} }};")
-    static("WEAVES", "Weave", [weave_name(*weave) for weave in weaves])
+    static("WEAVES", "Weave", [weave(len(actions.takes.get(n, [])), actions.nodes.get(n, 0), actions.mark(n) in own) for n in actions.names],
+           "What each action makes of the nodes of the values that it takes, by the actions' numbers.")
 
 
-def weave_name(takes, nodes, is_own):
-    return f"TAKES_{takes}_NODES_{nodes}" + ("_OWN" if is_own else "")
+def weave(takes, nodes, is_own):
+    return f"Weave {{ takes: {takes}, nodes: {nodes}, own: {str(is_own).lower()} }}"
 
 
 if __name__ == "__main__":
