@@ -1,0 +1,5 @@
+pub mod InOrder
+pub mod CTokens
+pub mod Stops
+mod CRefused
+mod VerilogRefused
