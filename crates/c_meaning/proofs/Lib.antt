@@ -1,0 +1,4 @@
+pub mod Means
+pub mod Fits
+pub mod Standing
+pub mod Examples
