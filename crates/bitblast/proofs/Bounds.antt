@@ -1,5 +1,5 @@
 -- The gates of an operation are few.
-use Rattle.std.proofs.Common.{◌≡◌, ℕ, suc, ◌+◌, ◌*◌, ◌<◌, ◌≤◌, List, [], ◌∷◌, length, Some, refl, arith}
+use Rattle.std.proofs.Common.{◌≡◌, ℕ, suc, ◌+◌, ◌*◌, ◌≤◌, List, [], ◌∷◌, length, Some, refl, arith}
 use Rattle.std.specs.Prelude.{slice_get, sum_by}
 use Rattle.std.proofs.lemmas.List.Sums.{sum_by-cons}
 use Rattle.std.proofs.lemmas.Option.{slice_get_within}
@@ -14,7 +14,7 @@ use Rattle.word_eqs.specs.declared.term.TermNode.TheVariants.{Const, Var, One, T
 use Rattle.word_eqs.specs.declared.list.Act.{Act}
 use Rattle.word_eqs.specs.declared.list.Act.TheVariants.{Free, Set, Cut, Prop}
 use Rattle.word_eqs.specs.declared.list.Step.{Step}
-use Rattle.word_eqs.specs.Graph.{FitsNode, Graph, IsGraph, width_in, width_of_var}
+use Rattle.word_eqs.specs.Graph.{FitsNode, Graph, IsGraph, width_in}
 use Rattle.word_eqs.specs.Gates.{act_gates, gate_count, gates1, gates2, node_gates, step_gates, term_gates}
 use Rattle.word_eqs.specs.Guarded.{FitsAct, IsOrdered}
 use Rattle.word_eqs.proofs.Graphs.{width_of_term}

@@ -16,7 +16,7 @@ use Rattle.word_eqs.proofs.Uses.{uses_there}
 use Rattle.bitblast.specs.Order.{AreEarly, AreLatest, ArePlaced, IsLatest, Places}
 use Rattle.bitblast.proofs.Placing.{part_before}
 use Rattle.bitblast.proofs.Stepping.{IsNextStep, givers_push, next_step}
-use Rattle.bitblast.proofs.Translating.{IsTerm, term_of}
+use Rattle.bitblast.proofs.Translating.{term_of}
 
 -- places of variables
 

@@ -17,7 +17,8 @@ use Rattle.word_eqs.proofs.Assigning.{after_list, assigned}
 use Rattle.bitblast.specs.declared.blasting.Maker.{Maker}
 use Rattle.bitblast.specs.Circuit.{number_of}
 use Rattle.bitblast.specs.Wires.{IsMade, edges_at}
-use Rattle.bitblast.specs.Blasted.{AreBits, AreFreeBits, IsAssignment, StandsFor, free_edges, inputs}
+use Rattle.bitblast.specs.Blasted.{AreBits, AreFreeBits, StandsFor, free_edges, inputs}
+use Rattle.word_eqs.specs.Assignments.{IsAssignment}
 use Rattle.bitblast.specs.Making.{IsAt, Shows, is_broken}
 use Rattle.bitblast.proofs.Choosing.{chosen, free_bits, free_numbers, inputs_agree}
 use Rattle.bitblast.proofs.Numbers.{number_of-below}

@@ -12,8 +12,9 @@ use Rattle.word_eqs.specs.declared.list.Act.TheVariants.{Free, Set, Cut, Prop}
 use Rattle.word_eqs.specs.declared.list.Step.{Step}
 use Rattle.word_eqs.specs.Graph.{Graph, width_of_var}
 use Rattle.word_eqs.specs.Gates.{gate_count}
-use Rattle.word_eqs.specs.Guarded.{Assigns, Breaks}
-use Rattle.word_eqs.specs.Meaning.{Values as Valuation, Respects}
+use Rattle.word_eqs.specs.Assignments.{IsAssignment}
+use Rattle.word_eqs.specs.Guarded.{Breaks}
+use Rattle.word_eqs.specs.Meaning.{Values as Valuation}
 use Rattle.bitblast.specs.Circuit.{AreBelow, number_of}
 use Rattle.bitblast.specs.Wires.{edges_at}
 
@@ -39,12 +40,6 @@ act_free wires (Prop p t) = []
 abbrev pub free_edges : List (ArrayVec Edge) → List Step → List Edge
 free_edges wires [] = []
 free_edges wires (s ∷ list) = act_free wires s.act ++ free_edges wires list
-
--- an assignment: each variable has a word of its width, each term what its parts make, and a variable
--- that the list sets has the word of its term
-pub record IsAssignment (g : Graph) (list : List Step) (v : Valuation) : Type 0 where
-  pub respects : Respects v g
-  pub sets : Assigns v list
 
 -- the edges of each variable are the bits of its word
 pub record AreBits (a : ℕ → Bool) (v : Valuation) (g : Graph) (wires : List (ArrayVec Edge)) : Type 0 where

@@ -16,7 +16,8 @@ use Rattle.word_eqs.specs.Guarded.{Uses, Walk, Passes, Stops, Stop, AtCut, AtPro
 use Rattle.word_eqs.specs.Meaning.{Values as Valuation, Respects}
 use Rattle.bitblast.specs.Circuit.{Grows}
 use Rattle.bitblast.specs.Wires.{AreWords, Fits, IsMade, edges_at}
-use Rattle.bitblast.specs.Blasted.{AreFreeBits, IsAssignment, free_edges, inputs, inputs_from}
+use Rattle.bitblast.specs.Blasted.{AreFreeBits, free_edges, inputs, inputs_from}
+use Rattle.word_eqs.specs.Assignments.{IsAssignment}
 use Rattle.bitblast.specs.declared.blasting.Maker.{Maker}
 
 abbrev pub has_none : List Edge → Bool

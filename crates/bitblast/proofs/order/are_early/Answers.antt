@@ -1,4 +1,4 @@
-use Rattle.std.proofs.Common.{◌≡◌, ◌<◌, length, subst, sym, arith}
+use Rattle.std.proofs.Common.{arith}
 use Rattle.std.proofs.lemmas.Option.{slice_get_within}
 use Rattle.bitblast.proofs.Placed.{act_terms_there}
 use Rattle.bitblast.proofs.order.are_early.Goals as goal

@@ -1,8 +1,7 @@
-use Rattle.std.proofs.Common.{◌≡◌, ◌+◌, length, sym, subst, ap, ◌∙◌, arith}
-use Rattle.std.specs.Prelude.{ℕ}
+use Rattle.std.proofs.Common.{◌+◌, length, sym, subst, ap, ◌∙◌, arith}
 use Rattle.word_eqs.specs.Graph.{FitsNode}
 use Rattle.bitblast.specs.Order.{AreLatest, IsLatest}
-use Rattle.bitblast.proofs.Placed.{latest_more, latest_none, node_fits}
+use Rattle.bitblast.proofs.Placed.{latest_more, node_fits}
 use Rattle.bitblast.proofs.order.latest_places.Goals as goal
 
 pub latest-latest-requires-clause-fits : goal.latest-latest-requires-clause-fits
