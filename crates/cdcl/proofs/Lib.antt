@@ -13,6 +13,9 @@ pub mod Solves
 pub mod Growth
 pub mod Walk
 pub mod Arrays
+pub mod Watches
+pub mod Passing
+pub mod Lists
 pub mod Sweeps
 pub mod Joins
 pub mod Levels

@@ -6,3 +6,5 @@ pub mod Work
 pub mod Grown
 pub mod Answer
 pub mod Turn
+pub mod Table
+pub mod Watched

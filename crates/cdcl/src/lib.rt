@@ -32,6 +32,8 @@ mod learn;
 // One turn of the search: propagation, and then a decision or what a conflict leads to.
 mod turn;
 
+pub mod watch;
+
 pub use activity::ActivityChooser;
 pub use below::has_vars_below;
 pub use chooser::{Chooser, Choosers};
