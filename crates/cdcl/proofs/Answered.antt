@@ -1,19 +1,21 @@
 -- The solver's answers.
 use Rattle.std.proofs.Common.{◌≡◌, ℕ, ◌+◌, ◌-◌, ◌*◌, ◌<◌, ◌≤◌, ◌^◌, ◌⊎◌, inl, inr, true, List, [], ◌∷◌, length, Option, Some, None, refl, sym, ap, ◌∙◌, subst, arith, length-append}
+use Rattle.std.proofs.lemmas.Bool.{not_from_false, ne_eqb}
 use Rattle.clause_arena.specs.declared.ClauseId.{ClauseId}
 use Rattle.clause_arena.specs.Clause.{Clause, Clauses, clause_at, is_same, is_below}
 use Rattle.res_log.specs.Step.{Step}
 use Rattle.res_log.specs.Log.{input}
+use Rattle.res_log.specs.Partial.{is_open}
 use Rattle.res_log.proofs.Same.{is_same-refl}
 use Rattle.cdcl.specs.declared.trail.Trail.{Trail}
 use Rattle.cdcl.specs.Trail.{AllClauses, State}
-use Rattle.cdcl.specs.Held.{vars_of, reasons_of, IsKept}
+use Rattle.cdcl.specs.Held.{vars_of, reasons_of, IsKept, Spreads}
 use Rattle.cdcl.specs.Grown.{Grows, IsLearned, IsRefuted}
 use Rattle.cdcl.specs.Turn.{GoesOn, Decides}
 use Rattle.cdcl.specs.Answer.{SameClause, IsLogOver, IsRefutation, IsSpent, Keeps}
 use Rattle.cdcl.proofs.Parts.{Some-is}
 use Rattle.cdcl.proofs.Spread.{get_or-new}
-use Rattle.cdcl.proofs.Solves.{Searching, learned-grown, refuted-grows, solving-learn, searching-decides, decides-smaller, learned-smaller, searching-keeps}
+use Rattle.cdcl.proofs.Solves.{Searching, searching-start, learned-grown, refuted-grows, solving-learn, searching-decides, decides-smaller, learned-smaller, searching-keeps}
 use Rattle.cdcl.proofs.Keeping.{keeps-then}
 use Rattle.cdcl.proofs.Walk.{growth_law, spent_law, log-results-open, ends-empty}
 
@@ -99,3 +101,27 @@ keeps-turn old arena more log vars budget t k h = keeps-then old arena more (sea
 -- a first answer, by what the calls ensure
 pub refuted-first : (old : Clauses) (budget : ℕ) (log : List Step) → log ≡ [] → ((id : ℕ) × (clause_at old id ≡ Some [])) → IsRefutation old old budget log
 refuted-first old budget log e h = subst (IsRefutation old old budget) (sym e) (refuted-at-once old budget h)
+
+pub open-from : (arena : Clauses) → (((id : ℕ) × (clause_at arena id ≡ Some [])) → ⊥) → AllClauses is_open arena
+open-from arena f id [] e = absurd (f (id, e))
+open-from arena f id (x ∷ xs) e = not_from_false _ (ne_eqb (length (x ∷ xs)) 0 (λ q. omega (arith, q)))
+
+-- a trail that forced literals made longer
+pub searching-spread : (old arena : Clauses) (log : List Step) (vars budget : ℕ) (t u : Trail) → Spreads arena t u → Searching old arena log vars budget t → Searching old arena log vars budget u
+searching-spread old arena log vars budget t u s h =
+    let e : vars_of u ≡ vars = s.vars ∙ h.vars_is in record {
+      solving = record {
+        grows = h.solving.grows;
+        size = h.solving.size;
+        left = h.solving.left;
+        below = h.solving.below;
+        none_empty = h.solving.none_empty;
+        state = subst (λ (n : ℕ). State arena n u.lits.items (reasons_of u)) e s.kept;
+      };
+      vars_is = e;
+    }
+
+-- the search begins where each clause is watched
+pub searching-begun : (arena : Clauses) (vars budget : ℕ) (t u : Trail) (log : List Step) → AllClauses (is_below vars) arena → 0 < budget → AllClauses is_open arena → log ≡ [] → t.lits.items ≡ [] → vars_of t ≡ vars → Spreads arena t u → Searching arena arena log vars budget u
+searching-begun arena vars budget t u log b l o n e v s =
+    subst (λ (x : List Step). Searching arena arena x vars budget u) (sym n) (searching-spread arena arena [] vars budget t u s (searching-start arena vars budget t b l o e v))

@@ -163,7 +163,7 @@ next-back arena trail start conflict steps current next i n step e w k l a b s f
   begun = λ z. absurd (omega (arith, length-append steps (step ∷ []), z));
 }
 
-free-at : (trail : List Lit) (start n : ℕ) → IsConsistent trail → start ≤ n → n < length trail → (m : Lit) → m.var ≡ (get_or trail n zero_lit).var → has (take start trail) m ≡ false
+pub free-at : (trail : List Lit) (start n : ℕ) → IsConsistent trail → start ≤ n → n < length trail → (m : Lit) → m.var ≡ (get_or trail n zero_lit).var → has (take start trail) m ≡ false
 free-at trail start n h l b m q =
     false_from_ne_true _ (λ a.
     let w = place-in trail start m (omega arith) a in

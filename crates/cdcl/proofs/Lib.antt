@@ -20,3 +20,4 @@ pub mod Sweeps
 pub mod Joins
 pub mod Levels
 pub mod Answered
+pub mod Watching

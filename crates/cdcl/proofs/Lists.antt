@@ -1,5 +1,5 @@
 -- Lists of lists, as vectors of vectors.
-use Rattle.std.proofs.Common.{◌≡◌, ℕ, suc, zero, ◌<◌, List, [], ◌∷◌, ◌++◌, set, get_or, map, length, refl, sym, ap, ◌∙◌, arith, Vec}
+use Rattle.std.proofs.Common.{◌≡◌, ℕ, ◌<◌, List, [], set, get_or, map, length, sym, ap, ◌∙◌, arith, Vec}
 use Rattle.std.specs.List.{swap_remove}
 use Rattle.std.specs.declared.alloc.Global.{Global}
 use Rattle.std.proofs.lemmas.List.{map-set, length-map, get_or-map}

@@ -1,21 +1,21 @@
 -- What going through the clauses under a literal keeps.
-use Rattle.std.proofs.Common.{◌≡◌, ℕ, suc, zero, ◌+◌, ◌-◌, ◌*◌, ◌<◌, ◌≤◌, Bool, true, false, not, ◌||◌, ◌⊎◌, inl, inr, List, [], ◌∷◌, ◌++◌, length, take, get_or, set, Option, Some, None, refl, sym, ap, ◌∙◌, subst, arith, length-append, cond}
+use Rattle.std.proofs.Common.{◌≡◌, ℕ, suc, zero, ◌+◌, ◌-◌, ◌*◌, ◌<◌, ◌≤◌, Bool, true, false, ◌⊎◌, inl, inr, List, [], ◌∷◌, ◌++◌, length, take, get_or, set, Option, Some, None, refl, sym, ap, ◌∙◌, subst, arith, length-append, cond}
 use Rattle.std.specs.List.{Contains, swap_remove}
-use Rattle.std.specs.Option.{ForSome, is_some}
-use Rattle.std.proofs.lemmas.Bool.{cases_Bool, or_cases, or_left, or_right, false≢true, both_ways, false_from_ne_true, cases_lt, cases_eq}
+use Rattle.std.specs.Option.{is_some}
+use Rattle.std.proofs.lemmas.Bool.{cases_Bool, or_left, or_right, both_ways, false_from_ne_true, cases_lt, cases_eq}
 use Rattle.std.proofs.lemmas.List.{length-set, get_or-set_same, get_or-set_other, get_or-take, length-take-le, get_or_past}
 use Rattle.std.proofs.lemmas.List.Elements.{Contains-append_left, Contains-push}
 use Rattle.std.proofs.lemmas.List.Sorted.{IsPermutation-swap_remove, Contains-permutation, length_permutation}
 use Rattle.clause_arena.specs.declared.Lit.{Lit}
 use Rattle.clause_arena.specs.declared.ClauseId.{ClauseId}
-use Rattle.clause_arena.specs.Clause.{Clause, Clauses, clause_at, lit, opposite, has, lit_eq, is_below}
+use Rattle.clause_arena.specs.Clause.{Clause, Clauses, clause_at, lit, opposite, has, lit_eq}
 use Rattle.clause_arena.proofs.Sets.{list_any-from_has, lit_eq-true, lit_eq-refl}
-use Rattle.res_log.specs.Partial.{is_true, is_free, is_forced, is_false}
+use Rattle.res_log.specs.Partial.{is_true}
 use Rattle.cdcl.specs.declared.watch.Pair.{Pair}
-use Rattle.cdcl.specs.Trail.{Reasons, AllClauses, AreForcedFrom, IsConsistent, State}
+use Rattle.cdcl.specs.Trail.{Reasons, AreForcedFrom, State}
 use Rattle.cdcl.proofs.Forced.{opposite-opposite}
 use Rattle.cdcl.proofs.Parts.{Some-is, Some-None}
-use Rattle.cdcl.specs.Watched.{IsGuarded, IsHeld, IsPaired, IsWatched, IsWatchedClause, Waits, IsVisited, AreVisited, IsSized, IsOther, listed, slot_of, no_pair}
+use Rattle.cdcl.specs.Watched.{IsGuarded, IsPaired, IsWatched, IsWatchedClause, Waits, AreVisited, IsSized, IsOther, listed, slot_of, no_pair}
 use Rattle.cdcl.proofs.Back.{get_or-any}
 use Rattle.cdcl.proofs.Looks.{has-at}
 use Rattle.cdcl.proofs.Spread.{get_or-old, get_or-new}
@@ -107,10 +107,10 @@ moved_lists lists z w x i =
     let more = set lists (slot_of z) (listed lists z ++ x ∷ []) in
     set more (slot_of w) (swap_remove (listed more w) i x)
 
-listed-other : (lists : List (List ClauseId)) (v w : Lit) (xs : List ClauseId) → (v ≡ w → ⊥) → listed (set lists (slot_of w) xs) v ≡ listed lists v
+pub listed-other : (lists : List (List ClauseId)) (v w : Lit) (xs : List ClauseId) → (v ≡ w → ⊥) → listed (set lists (slot_of w) xs) v ≡ listed lists v
 listed-other lists v w xs n = get_or-set_other lists (slot_of w) (slot_of v) xs [] (λ e. n (slot-one v w e))
 
-listed-same : (lists : List (List ClauseId)) (w : Lit) (xs : List ClauseId) → slot_of w < length lists → listed (set lists (slot_of w) xs) w ≡ xs
+pub listed-same : (lists : List (List ClauseId)) (w : Lit) (xs : List ClauseId) → slot_of w < length lists → listed (set lists (slot_of w) xs) w ≡ xs
 listed-same lists w xs lt = get_or-set_same lists (slot_of w) xs [] lt
 
 ne-lt : (i j : ℕ) → i ≤ j → (j ≡ i → ⊥) → i < j
@@ -119,10 +119,10 @@ ne-lt i j le n = elim (cases_lt i j) [ inl a ↦ a | inr a ↦ absurd (n (omega 
 lt-last : (j n : ℕ) → j < n → (j ≡ n - 1 → ⊥) → j < n - 1
 lt-last j n lt f = elim (cases_lt j (n - 1)) [ inl a ↦ a | inr a ↦ absurd (f (omega arith)) ]
 
-abbrev id_of : ℕ → ClauseId
+abbrev pub id_of : ℕ → ClauseId
 id_of n = record { 0 = n }
 
-id-cases : (x y : ClauseId) → (x ≡ y) ⊎ (x ≡ y → ⊥)
+pub id-cases : (x y : ClauseId) → (x ≡ y) ⊎ (x ≡ y → ⊥)
 id-cases x y = elim (cases_eq x.0 y.0) [ inl a ↦ inl (ap (λ (n : ℕ). id_of n) a) | inr a ↦ inr (λ e. a (ap (λ (z : ClauseId). z.0) e)) ]
 
 -- what an id that moved from w to z leaves under each literal
@@ -163,8 +163,8 @@ module _ (lists : List (List ClauseId)) (z w : Lit) (x : ClauseId) (i : ℕ) (zw
       ]
 
   gone-from : (y : ClauseId) → (y ≡ x → ⊥) → Contains (x ∷ swap_remove (listed lists w) i x) y → Contains (swap_remove (listed lists w) i x) y
-  gone-from y n (zero , l , e) = absurd (n (sym e))
-  gone-from y n (suc k , l , e) = (k, omega (arith, l), e)
+  gone-from y n (zero, l, e) = absurd (n (sym e))
+  gone-from y n (suc k, l, e) = (k, omega (arith, l), e)
 
   -- of another clause nothing is taken away
   pub moved-kept : (v : Lit) (y : ClauseId) → (y ≡ x → ⊥) → Contains (listed lists v) y → Contains (listed (moved_lists lists z w x i) v) y
@@ -253,10 +253,12 @@ watched-moved arena p rs h lists pairs z w other x i c zw sz sw lt at small ec h
       | inr s ↦
           let q : get_or (set pairs x.0 two) id.0 no_pair ≡ get_or pairs id.0 no_pair = get_or-set_other pairs x.0 id.0 two no_pair (λ b. s (ap (λ (n : ℕ). id_of n) b)) in
           let t = g id d e in
-          subst (λ (u : Pair). IsWatchedClause p rs h (moved_lists lists z w x i) id d u) (sym q)
-          (t.0, t.1, elim t.2 [
-            | inl a ↦ inl a
-            | inr a ↦ inr (record {
+          subst (λ (u : Pair). IsWatchedClause p rs h (moved_lists lists z w x i) id d u) (sym q) (
+            t.0,
+            t.1,
+            elim t.2 [
+              | inl a ↦ inl a
+              | inr a ↦ inr (record {
                 has_first = a.has_first;
                 has_second = a.has_second;
                 differ = a.differ;
@@ -265,7 +267,8 @@ watched-moved arena p rs h lists pairs z w other x i c zw sz sw lt at small ec h
                 lists_first = moved-kept lists z w x i zw sz sw lt at (get_or pairs id.0 no_pair).first id s a.lists_first;
                 lists_second = moved-kept lists z w x i zw sz sw lt at (get_or pairs id.0 no_pair).second id s a.lists_second;
               })
-          ])
+            ],
+          )
     ]
 
 pub visited-moved : (arena : Clauses) (p : List Lit) (lists : List (List ClauseId)) (pairs : List Pair) (z w other : Lit) (x : ClauseId) (i : ℕ) (c : Clause)
@@ -350,7 +353,7 @@ other-over arena p rs h w other lists pairs x c e o s q =
       | inr a ↦ absurd ((other-kept p rs h lists x c (get_or pairs x.0 no_pair) w other o a).1 q)
     ]
 
-id-below : (arena : Clauses) (n : ℕ) (c : Clause) → clause_at arena n ≡ Some c → n < length arena
+pub id-below : (arena : Clauses) (n : ℕ) (c : Clause) → clause_at arena n ≡ Some c → n < length arena
 id-below arena n c e = elim (cases_lt n (length arena)) [ inl a ↦ a | inr a ↦ absurd (Some-None c (sym e ∙ get_or_past arena n None a)) ]
 
 -- a watch moved
@@ -367,9 +370,9 @@ passing-move arena vars p rs h w z other lists pairs i x c lt at e hz fz ne o bz
       gone = s.gone;
       head = s.head;
       sized = record {
-          one_pair_each = length-set pairs x.0 two ∙ s.sized.one_pair_each;
-          one_list_each = length-set grown (slot_of w) (swap_remove (listed grown w) i x) ∙ length-set lists (slot_of z) (listed lists z ++ x ∷ []) ∙ s.sized.one_list_each;
-        };
+        one_pair_each = length-set pairs x.0 two ∙ s.sized.one_pair_each;
+        one_list_each = length-set grown (slot_of w) (swap_remove (listed grown w) i x) ∙ length-set lists (slot_of z) (listed lists z ++ x ∷ []) ∙ s.sized.one_list_each;
+      };
       watched = watched-moved arena p rs h lists pairs z w other x i c zw sz sw lt at small e hz fz ne o s.watched;
       visited = visited-moved arena p lists pairs z w other x i c zw (other-over arena p rs h w other lists pairs x c e o s.watched) sz sw lt at small e s.visited;
     }

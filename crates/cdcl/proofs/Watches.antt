@@ -1,18 +1,17 @@
 -- What watching two literals gives, and what keeps it.
-use Rattle.std.proofs.Common.{◌≡◌, ℕ, suc, zero, ◌+◌, ◌<◌, ◌≤◌, Bool, true, false, ◌||◌, ◌⊎◌, inl, inr, List, [], ◌∷◌, ◌++◌, length, take, get_or, Option, Some, None, refl, sym, ap, ◌∙◌, subst, arith, length-append}
-use Rattle.std.specs.List.{list_any}
-use Rattle.std.specs.Option.{ForSome, is_some}
+use Rattle.std.proofs.Common.{◌≡◌, ℕ, ◌+◌, ◌<◌, ◌≤◌, true, false, inl, inr, List, [], ◌∷◌, ◌++◌, length, take, get_or, Option, Some, None, refl, sym, ap, ◌∙◌, arith, length-append}
+use Rattle.std.specs.Option.{is_some}
 use Rattle.std.proofs.lemmas.Bool.{cases_Bool, or_cases, or_left, or_right, false≢true, both_ways, false_from_ne_true, cases_lt}
 use Rattle.std.proofs.lemmas.List.{length-take-le}
 use Rattle.std.proofs.Math.Seq.{take-length}
 use Rattle.clause_arena.specs.declared.Lit.{Lit}
 use Rattle.clause_arena.specs.declared.ClauseId.{ClauseId}
-use Rattle.clause_arena.specs.Clause.{Clause, Clauses, clause_at, opposite, has, lit_eq}
+use Rattle.clause_arena.specs.Clause.{Clause, Clauses, opposite, has, lit_eq}
 use Rattle.clause_arena.proofs.Sets.{passing, list_any-from_has, lit_eq-true, lit_eq-refl}
 use Rattle.res_log.specs.Partial.{is_true, is_quiet, is_free}
 use Rattle.cdcl.specs.declared.watch.Pair.{Pair}
-use Rattle.cdcl.specs.Trail.{Reasons, AllClauses, AreForcedFrom, IsConsistent}
-use Rattle.cdcl.specs.Watched.{IsGuarded, IsHeld, IsPaired, IsWatched, no_pair}
+use Rattle.cdcl.specs.Trail.{Reasons, AllClauses, AreForcedFrom}
+use Rattle.cdcl.specs.Watched.{IsGuarded, IsHeld, IsWatched, no_pair}
 use Rattle.cdcl.proofs.Parts.{Some-None}
 use Rattle.cdcl.proofs.Looks.{quiet-two, quiet-true, free-from}
 use Rattle.cdcl.proofs.Gains.{has-take, take-less, free-not-false}

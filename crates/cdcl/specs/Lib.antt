@@ -1,10 +1,10 @@
 pub mod Trail
 pub mod Arrays
 pub mod Held
-pub mod Look
 pub mod Work
 pub mod Grown
 pub mod Answer
 pub mod Turn
 pub mod Table
 pub mod Watched
+pub mod Watching

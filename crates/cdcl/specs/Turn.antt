@@ -37,3 +37,10 @@ IsTurn arena log old more longer new budget Again = GoesOn arena log old more lo
 IsTurn arena log old more longer new budget (Satisfied bits) = (more ≡ arena) × IsModel arena (vars_of old) bits
 IsTurn arena log old more longer new budget Refuted = IsRefuted arena log more longer
 IsTurn arena log old more longer new budget Spent = IsLearned (vars_of old) arena log more longer × (length longer ≡ budget)
+
+-- the fact holds where the search goes on
+abbrev pub OnAgain : Type 0 → Outcome → Type 0
+OnAgain P Again = P
+OnAgain P (Satisfied bits) = Unit {0}
+OnAgain P Refuted = Unit {0}
+OnAgain P Spent = Unit {0}

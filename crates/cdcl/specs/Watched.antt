@@ -4,11 +4,11 @@ use Rattle.std.specs.Option.{ForSome}
 use Rattle.clause_arena.specs.declared.Lit.{Lit}
 use Rattle.clause_arena.specs.declared.ClauseId.{ClauseId}
 use Rattle.clause_arena.specs.Clause.{Clause, Clauses, clause_at, opposite, has, lit_eq}
-use Rattle.res_log.specs.Partial.{is_true, is_free, is_forced, is_false, is_quiet}
-use Rattle.cdcl.specs.Trail.{Reasons, AllClauses}
+use Rattle.res_log.specs.Partial.{is_true, is_free, is_forced, is_false}
+use Rattle.cdcl.specs.Trail.{Reasons}
 use Rattle.cdcl.specs.declared.watch.Pair.{Pair}
-use Rattle.cdcl.specs.declared.watch.Visit.{Visit}
-use Rattle.cdcl.specs.declared.watch.Visit.TheVariants.{Stays, Moves, Forces, Falsified}
+use Rattle.cdcl.specs.declared.propagate.Visit.{Visit}
+use Rattle.cdcl.specs.declared.propagate.Visit.TheVariants.{Stays, Moves, Forces, Falsified}
 
 -- The first h literals of the trail were looked at. Where one of them made the watched literal false, some literal
 -- of the clause is true: now, and at the end of each level from there on. So going back to such an end keeps it.
@@ -77,7 +77,3 @@ Finds p c other Stays = is_true p c ≡ true
 Finds p c other (Moves z) = (has c z ≡ true) × (has p (opposite z) ≡ false) × (lit_eq z other ≡ false)
 Finds p c other (Forces l) = (is_free p l ≡ true) × (is_forced p l c ≡ true)
 Finds p c other Falsified = is_false p c ≡ true
-
--- Where the whole trail was looked at, each clause is quiet: a decision or a model misses no propagation.
-abbrev pub CompletenessLaw : Type 0
-CompletenessLaw = (arena : Clauses) (p : List Lit) (reasons : Reasons) (lists : List (List ClauseId)) (pairs : List Pair) → IsWatched arena p reasons (length p) lists pairs → AllClauses (is_quiet p) arena

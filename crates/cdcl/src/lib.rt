@@ -17,6 +17,12 @@ mod below;
 // What is true, and since when.
 mod trail;
 
+// Which clauses are looked at where a literal becomes false.
+mod watch;
+
+// Each clause is watched from here on.
+mod start;
+
 // Each clause is quiet from here on, or one is false.
 mod propagate;
 
@@ -32,18 +38,19 @@ mod learn;
 // One turn of the search: propagation, and then a decision or what a conflict leads to.
 mod turn;
 
-pub mod watch;
-
 pub use activity::ActivityChooser;
 pub use below::has_vars_below;
 pub use chooser::{Chooser, Choosers};
 use clause_arena::{Bits, ClauseArena};
 pub use counts::Counts;
+use learn::refute;
 pub use order::OrderChooser;
 use res_log::{Log, has_empty_clause};
+use start::watch_all;
 use std::alloc::{AllocError, Global};
 use trail::Trail;
 use turn::{Outcome, turn};
+use watch::Watches;
 
 /// What the solver found.
 #[derive(Drop)]
@@ -103,8 +110,25 @@ pub fn solve_counted(
     }
     chooser.ready(vars)?;
     let mut trail = Trail::new(alloc, vars)?;
+    let mut watches = Watches::new(alloc, vars)?;
+    match watch_all(arena, &mut trail, &mut watches)? {
+        Some(conflict) => {
+            refute(alloc, arena, &mut log, &trail, conflict)?;
+            return Ok(Solved::Refuted(log));
+        }
+        None => {}
+    }
     'search: loop {
-        match turn(alloc, arena, &mut log, &mut trail, chooser, budget, counts)? {
+        match turn(
+            alloc,
+            arena,
+            &mut log,
+            &mut trail,
+            &mut watches,
+            chooser,
+            budget,
+            counts,
+        )? {
             Outcome::Again => continue,
             Outcome::Satisfied(bits) => return Ok(Solved::Model(bits)),
             Outcome::Refuted => return Ok(Solved::Refuted(log)),

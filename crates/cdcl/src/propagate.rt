@@ -1,108 +1,186 @@
-//! Unit propagation, by scanning the clauses. How it finds its clauses is known to this file alone:
-//! the others take from it that each clause is quiet, or that one is false.
+//! Unit propagation: a clause is looked at where a literal that it watches became false. The others
+//! take from it that each clause is quiet, or that one is false.
 
-ghost use Rattle.std.specs.Prelude.{◌≡◌, ◌<◌, ◌≤◌, ◌++◌, ◌∷◌, [], ℕ, true, false, length, take, slice_index_or, Option, Some, None, IfOk, OnOk};
-ghost use Rattle.clause_arena.specs.Clause.{is_below, clause_at};
-ghost use Rattle.clause_arena.specs.declared.ClauseId.{ClauseId};
-ghost use Rattle.res_log.specs.Partial.{is_quiet};
-ghost use Rattle.cdcl.specs.Trail.{AllClauses};
-ghost use Rattle.cdcl.specs.Held.{IsKept, vars_of, Spreads};
-ghost use Rattle.cdcl.specs.Look.{Tells};
-ghost use Rattle.cdcl.specs.Work.{IsSettled, IsSwept};
+ghost use Rattle.std.specs.Prelude.{◌≡◌, ◌<◌, ◌≤◌, ◌+◌, true, false, length, slice_index_or, MatchOption, None, IfOk, OnOk};
+ghost use Rattle.clause_arena.specs.Clause.{has, opposite, is_below};
+ghost use Rattle.clause_arena.specs.declared.Lit.{Lit as TrueLit};
+ghost use Rattle.cdcl.specs.Trail.{AllClauses, AreForcedFrom};
+ghost use Rattle.cdcl.specs.Held.{vars_of, IsKept, reasons_of, Spreads};
+ghost use Rattle.cdcl.specs.Work.{IsConflict, IsSettled};
+ghost use Rattle.cdcl.specs.Watched.{Finds, slot_of, listed, IsWatched, IsSized, AreVisited};
+ghost use Rattle.cdcl.specs.Watching.{IsWatching};
 
 use crate::trail::{Trail, is_same_lit, negated};
+use crate::watch::{Pair, Watches};
 use clause_arena::{ClauseArena, ClauseId, Lit};
 use std::alloc::AllocError;
 
-/// What a look at one clause tells.
+/// What a visit of a clause finds.
 #[derive(Clone, Copy)]
-pub enum Look {
-    /// A literal is true, or two are free.
-    Quiet,
-    /// One literal is free and the others are false.
-    Forced(Lit),
+pub enum Visit {
+    /// A literal is true.
+    Stays,
+    /// This literal isn't false, and isn't the other one that is watched.
+    Moves(Lit),
+    /// The other one is free, and all else is false.
+    Forces(Lit),
     /// Each literal is false.
     Falsified,
 }
 
-/// Looks at each literal of a clause, at most once.
-pub fn examine(trail: &Trail, clause: &[Lit]) -> Look
-    requires { is_below (vars_of trail.now) clause.now ≡ true }
-    ensures { Tells trail.now.lits.items clause.now result }
+/// Looks for a literal to watch in place of one that became false.
+pub fn find_watch(trail: &Trail, clause: &[Lit], other: Lit) -> Visit
+    requires below { is_below (vars_of trail.now) clause.now ≡ true }
+    requires other { has clause.now other ≡ true }
+    requires small { other.var < vars_of trail.now }
+    ensures { Finds trail.now.lits.items clause.now other result }
 {
-    let mut free: Option<Lit> = None;
+    if trail.holds(other) {
+        return Visit::Stays;
+    }
     for l in clause {
-        if trail.holds(*l) {
-            return Look::Quiet;
-        }
-        if trail.holds(negated(*l)) {
+        if is_same_lit(*l, other) {
             continue;
         }
-        let other = match free {
+        if !trail.holds(negated(*l)) {
+            return Visit::Moves(*l);
+        }
+    }
+    if trail.holds(negated(other)) {
+        return Visit::Falsified;
+    }
+    Visit::Forces(other)
+}
+
+/// Looks at each clause that watches the literal, which became false: some move to another literal, some force one.
+pub fn pass(
+    arena: &ClauseArena,
+    trail: &mut Trail,
+    watches: &mut Watches,
+    head: usize,
+    gone: Lit,
+) -> Result<Option<ClauseId>, AllocError>
+    requires below { AllClauses (is_below (vars_of trail.old)) arena.now.clauses }
+    requires kept { IsKept arena.now.clauses trail.old }
+    requires sized { IsSized arena.now.clauses (vars_of trail.old) watches.old.lists watches.old.pairs }
+    requires head { head < length trail.old.lits.items }
+    requires here { (d : TrueLit) → slice_index_or trail.old.lits.items head d ≡ opposite gone }
+    requires forced { AreForcedFrom (reasons_of trail.old) (head + 1) }
+    requires small { gone.var < vars_of trail.old }
+    requires watched { IsWatched arena.now.clauses trail.old.lits.items (reasons_of trail.old) head watches.old.lists watches.old.pairs }
+    ensures spread { OnOk result (Spreads arena.now.clauses trail.old trail.new) }
+    ensures sized { OnOk result (IsSized arena.now.clauses (vars_of trail.new) watches.new.lists watches.new.pairs) }
+    ensures watched { OnOk result (IsWatched arena.now.clauses trail.new.lits.items (reasons_of trail.new) head watches.new.lists watches.new.pairs) }
+    ensures here { OnOk result ((d : TrueLit) → slice_index_or trail.new.lits.items head d ≡ opposite gone) }
+    ensures forced { OnOk result (AreForcedFrom (reasons_of trail.new) (head + 1)) }
+    ensures passed { IfOk result (λ found. MatchOption found (AreVisited arena.now.clauses trail.new.lits.items watches.new.lists watches.new.pairs gone (length (listed watches.new.lists gone))) (IsConflict arena.now.clauses trail.new.lits.items)) }
+{
+    let mut i = 0;
+    'list: while i < watches.len_under(gone) {
+        let id = watches.id_under(gone, i);
+        if !arena.is_live(id) {
+            i += 1;
+            continue;
+        }
+        let other = match watches.other_of(id, gone) {
             None => {
-                free = Some(*l);
+                i += 1;
                 continue;
             }
             Some(other) => other,
         };
-        if !is_same_lit(*l, other) {
-            return Look::Quiet;
+        match find_watch(trail, arena.lits(id), other) {
+            Visit::Stays => {
+                i += 1;
+                continue;
+            }
+            Visit::Falsified => return Ok(Some(id)),
+            Visit::Forces(l) => {
+                trail.push(l, Some(id))?;
+                i += 1;
+                continue;
+            }
+            Visit::Moves(z) => {
+                watches.add_under(z, id)?;
+                watches.take_under(gone, i);
+                watches.set_pair(
+                    id,
+                    Pair {
+                        first: z,
+                        second: other,
+                    },
+                );
+                continue;
+            }
         }
     }
-    match free {
-        None => Look::Falsified,
-        Some(l) => Look::Forced(l),
-    }
+    Ok(None)
 }
 
-/// What a look at all clauses in turn told.
+/// How far the trail was looked at, and the clause that is false, if one is.
 #[derive(Clone, Copy)]
-pub enum Sweep {
-    /// Each clause is quiet.
-    Settled,
-    /// A literal was forced.
-    Moved,
-    /// The clause is false.
-    Conflict(ClauseId),
+pub struct Reached {
+    pub head: usize,
+    pub found: Option<ClauseId>,
 }
 
-/// Looks at each clause once, and makes the literals true that are forced.
-pub fn sweep_all(arena: &ClauseArena, trail: &mut Trail) -> Result<Sweep, AllocError>
+/// Looks at the literals of the trail from a place on.
+pub fn propagate_from(
+    arena: &ClauseArena,
+    trail: &mut Trail,
+    watches: &mut Watches,
+    head: usize,
+) -> Result<Reached, AllocError>
     requires below { AllClauses (is_below (vars_of trail.old)) arena.now.clauses }
     requires kept { IsKept arena.now.clauses trail.old }
+    requires sized { IsSized arena.now.clauses (vars_of trail.old) watches.old.lists watches.old.pairs }
+    requires head { head ≤ length trail.old.lits.items }
+    requires forced { AreForcedFrom (reasons_of trail.old) (head + 1) }
+    requires watched { IsWatched arena.now.clauses trail.old.lits.items (reasons_of trail.old) head watches.old.lists watches.old.pairs }
     ensures spread { OnOk result (Spreads arena.now.clauses trail.old trail.new) }
-    ensures swept { IfOk result (IsSwept arena.now.clauses trail.old.lits.items trail.new.lits.items) }
+    ensures sized { OnOk result (IsSized arena.now.clauses (vars_of trail.new) watches.new.lists watches.new.pairs) }
+    ensures watched { IfOk result (λ r. IsWatched arena.now.clauses trail.new.lits.items (reasons_of trail.new) r.head watches.new.lists watches.new.pairs) }
+    ensures to { IfOk result (λ r. r.head ≤ length trail.new.lits.items) }
+    ensures forced { IfOk result (λ r. AreForcedFrom (reasons_of trail.new) (r.head + 1)) }
+    ensures seen { IfOk result (λ r. r.found ≡ None → r.head ≡ length trail.new.lits.items) }
+    ensures settled { IfOk result (λ r. IsSettled arena.now.clauses trail.new.lits.items r.found) }
 {
-    let mut moved = false;
-    for i in 0..arena.count() {
-        let id = ClauseId(i);
-        if !arena.is_live(id) {
-            continue;
-        }
-        match examine(trail, arena.lits(id)) {
-            Look::Quiet => continue,
-            Look::Forced(l) => {
-                trail.push(l, Some(id))?;
-                moved = true;
+    let mut at = head;
+    'spread: while at < trail.lits.len() {
+        let gone = negated(trail.lits[at]);
+        match pass(arena, trail, watches, at, gone)? {
+            Some(id) => {
+                return Ok(Reached {
+                    head: at,
+                    found: Some(id),
+                });
             }
-            Look::Falsified => return Ok(Sweep::Conflict(id)),
+            None => {}
         }
+        at += 1;
     }
-    Ok(if moved { Sweep::Moved } else { Sweep::Settled })
+    Ok(Reached {
+        head: at,
+        found: None,
+    })
 }
 
 /// Makes literals true until no clause forces one, or a clause is false.
-pub fn propagate(arena: &ClauseArena, trail: &mut Trail) -> Result<Option<ClauseId>, AllocError>
+pub fn propagate(
+    arena: &ClauseArena,
+    trail: &mut Trail,
+    watches: &mut Watches,
+) -> Result<Option<ClauseId>, AllocError>
     requires below { AllClauses (is_below (vars_of trail.old)) arena.now.clauses }
     requires kept { IsKept arena.now.clauses trail.old }
+    requires watching { IsWatching arena.now.clauses trail.old watches.old }
     ensures spread { OnOk result (Spreads arena.now.clauses trail.old trail.new) }
+    ensures watching { OnOk result (IsWatching arena.now.clauses trail.new watches.new) }
+    ensures seen { IfOk result (λ found. found ≡ None → watches.new.head ≡ length trail.new.lits.items) }
     ensures settled { IfOk result (IsSettled arena.now.clauses trail.new.lits.items) }
 {
-    'spread: loop {
-        match sweep_all(arena, trail)? {
-            Sweep::Settled => return Ok(None),
-            Sweep::Conflict(id) => return Ok(Some(id)),
-            Sweep::Moved => continue,
-        }
-    }
+    let head = watches.head();
+    let reached = propagate_from(arena, trail, watches, head)?;
+    watches.set_head(reached.head);
+    Ok(reached.found)
 }

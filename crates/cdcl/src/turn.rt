@@ -7,12 +7,14 @@ ghost use Rattle.cdcl.specs.Trail.{AllClauses};
 ghost use Rattle.cdcl.specs.Held.{IsKept, vars_of};
 ghost use Rattle.cdcl.specs.Work.{IsConflict};
 ghost use Rattle.cdcl.specs.Answer.{Keeps, assignment};
-ghost use Rattle.cdcl.specs.Turn.{IsTurn, IsOutcome};
+ghost use Rattle.cdcl.specs.Turn.{IsTurn, IsOutcome, OnAgain};
+ghost use Rattle.cdcl.specs.Watching.{IsWatching};
 
 use crate::chooser::Chooser;
 use crate::counts::{Counts, propagate_counted};
 use crate::learn::{learn, refute};
 use crate::trail::Trail;
+use crate::watch::Watches;
 use clause_arena::{Bits, ClauseArena, ClauseId, Lit};
 use res_log::Log;
 use std::alloc::{AllocError, Global};
@@ -87,6 +89,7 @@ pub fn end_conflict(
     arena: &mut ClauseArena,
     log: &mut Log,
     trail: &mut Trail,
+    watches: &mut Watches,
     chooser: &mut Box<dyn Chooser>,
     budget: u64,
     conflict: ClauseId,
@@ -95,9 +98,11 @@ pub fn end_conflict(
     requires below { AllClauses (is_below (vars_of trail.old)) arena.old.clauses }
     requires open { AllClauses is_open arena.old.clauses }
     requires kept { IsKept arena.old.clauses trail.old }
+    requires watching { IsWatching arena.old.clauses trail.old watches.old }
     requires conflict { IsConflict arena.old.clauses trail.old.lits.items conflict }
     requires ready { ready_for chooser.old ≡ vars_of trail.old }
     ensures outcome { IfOk result (IsOutcome arena.old.clauses log.old trail.old arena.new.clauses log.new trail.new budget) }
+    ensures watching { IfOk result (OnAgain (IsWatching arena.new.clauses trail.new watches.new)) }
     ensures ready { ready_for chooser.new ≡ ready_for chooser.old }
     ensures clauses { Keeps arena.old.clauses arena.new.clauses }
     ensures bounded { length arena.new.clauses ≤ length arena.old.clauses + 1 }
@@ -109,7 +114,7 @@ pub fn end_conflict(
             return Ok(Outcome::Refuted);
         }
     };
-    let id = learn(alloc, arena, log, trail, conflict, start)?;
+    let id = learn(alloc, arena, log, trail, watches, conflict, start)?;
     if log.len() == budget {
         return Ok(Outcome::Spent);
     }
@@ -123,6 +128,7 @@ pub fn turn(
     arena: &mut ClauseArena,
     log: &mut Log,
     trail: &mut Trail,
+    watches: &mut Watches,
     chooser: &mut Box<dyn Chooser>,
     budget: u64,
     counts: &mut Counts,
@@ -132,14 +138,18 @@ pub fn turn(
     requires below { AllClauses (is_below (vars_of trail.old)) arena.old.clauses }
     requires open { AllClauses is_open arena.old.clauses }
     requires kept { IsKept arena.old.clauses trail.old }
+    requires watching { IsWatching arena.old.clauses trail.old watches.old }
     requires ready { ready_for chooser.old ≡ vars_of trail.old }
     ensures turned { IfOk result (IsTurn arena.old.clauses log.old trail.old arena.new.clauses log.new trail.new budget) }
+    ensures watching { IfOk result (OnAgain (IsWatching arena.new.clauses trail.new watches.new)) }
     ensures ready { ready_for chooser.new ≡ ready_for chooser.old }
     ensures clauses { Keeps arena.old.clauses arena.new.clauses }
     ensures bounded { length arena.new.clauses ≤ length arena.old.clauses + 1 }
 {
-    match propagate_counted(arena, trail, counts)? {
-        Some(conflict) => return end_conflict(alloc, arena, log, trail, chooser, budget, conflict),
+    match propagate_counted(arena, trail, watches, counts)? {
+        Some(conflict) => {
+            return end_conflict(alloc, arena, log, trail, watches, chooser, budget, conflict);
+        }
         None => {}
     }
     match next_decision(chooser, trail) {

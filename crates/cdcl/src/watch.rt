@@ -1,18 +1,14 @@
-//! Watched literals: a prototype.
+//! Which clauses are looked at where a literal becomes false: each clause with two literals or more
+//! watches two of them, and is listed under both.
 
-ghost use Rattle.std.specs.Prelude.{◌≡◌, ◌<◌, ◌≤◌, ◌+◌, ◌*◌, ◌++◌, ◌∷◌, ◌⊎◌, [], ℕ, true, false, length, take, slice_set, slice_index_or, MatchOption, IfOk, OnOk, Option};
-ghost use Rattle.std.specs.List.{swap_remove};
-ghost use Rattle.clause_arena.specs.Clause.{has, opposite, lit_eq, is_below, clause_at};
+ghost use Rattle.std.specs.Prelude.{◌≡◌, ◌<◌, ◌+◌, ◌*◌, ◌++◌, ◌∷◌, ◌⊎◌, [], ℕ, length, slice_set, slice_index_or, MatchOption, IfOk, OnOk};
+ghost use Rattle.std.specs.List.{swap_remove, Contains};
 ghost use Rattle.clause_arena.specs.declared.ClauseId.{ClauseId};
-ghost use Rattle.cdcl.specs.Trail.{AllClauses, AreForcedFrom};
-ghost use Rattle.clause_arena.specs.declared.Lit.{Lit as Littered};
-ghost use Rattle.cdcl.specs.Held.{vars_of, IsKept, reasons_of, Spreads};
-ghost use Rattle.cdcl.specs.Work.{IsConflict, IsSettled};
-ghost use Rattle.cdcl.specs.Watched.{Finds, CompletenessLaw, slot_of, listed, no_pair, IsOther, IsWatched, IsSized, AreVisited};
+ghost use Rattle.cdcl.specs.Watching.{IsAdded};
+ghost use Rattle.cdcl.specs.Watched.{slot_of, listed, no_pair, IsOther};
 
-use crate::trail::{Trail, is_same_lit, negated};
-use clause_arena::{ClauseArena, ClauseId, Lit};
-use std::alloc::AllocError;
+use clause_arena::{ClauseId, Lit};
+use std::alloc::{AllocError, Global};
 use std::marker::Model;
 
 /// The two literals of a clause that are watched.
@@ -21,48 +17,6 @@ pub struct Pair {
     pub first: Lit,
     pub second: Lit,
 }
-
-/// What a visit of a clause finds.
-#[derive(Clone, Copy)]
-pub enum Visit {
-    /// A literal is true.
-    Stays,
-    /// This literal isn't false, and isn't the other one that is watched.
-    Moves(Lit),
-    /// The other one is free, and all else is false.
-    Forces(Lit),
-    /// Each literal is false.
-    Falsified,
-}
-
-/// Looks for a literal to watch in place of one that became false.
-pub fn find_watch(trail: &Trail, clause: &[Lit], other: Lit) -> Visit
-    requires below { is_below (vars_of trail.now) clause.now ≡ true }
-    requires other { has clause.now other ≡ true }
-    requires small { other.var < vars_of trail.now }
-    ensures { Finds trail.now.lits.items clause.now other result }
-{
-    if trail.holds(other) {
-        return Visit::Stays;
-    }
-    for l in clause {
-        if is_same_lit(*l, other) {
-            continue;
-        }
-        if !trail.holds(negated(*l)) {
-            return Visit::Moves(*l);
-        }
-    }
-    if trail.holds(negated(other)) {
-        return Visit::Falsified;
-    }
-    Visit::Forces(other)
-}
-
-/// All is quiet where each literal was looked at. It does nothing: its contract is a law.
-pub fn completeness_law()
-    ensures { CompletenessLaw }
-{}
 
 /// The place of a literal's list.
 fn slot(l: Lit) -> usize
@@ -74,8 +28,12 @@ fn slot(l: Lit) -> usize
 /// Which clauses are looked at where a literal becomes false.
 #[derive(Drop)]
 pub struct Watches {
+    /// For each literal the clauses that watch it.
     lists: Vec<Vec<ClauseId>>,
+    /// For each id the two literals that its clause watches.
     pairs: Vec<Pair>,
+    /// How many literals of the trail were looked at.
+    head: usize,
 }
 
 impl Model for Watches {
@@ -84,10 +42,72 @@ impl Model for Watches {
 
     ghost Value = { Table };
 
-    ghost view = { λ a. record { lists = map (λ v. v.items) a.lists.items; pairs = a.pairs.items } };
+    ghost view = { λ a. record { lists = map (λ v. v.items) a.lists.items; pairs = a.pairs.items; head = a.head } };
 }
 
 impl Watches {
+    /// No clause is watched.
+    pub fn new(alloc: Global, vars: u32) -> Result<Watches, AllocError>
+        ensures lists { IfOk result (λ w. length w.lists ≡ 2 * vars) }
+        ensures pairs { IfOk result (λ w. w.pairs ≡ []) }
+        ensures head { IfOk result (λ w. w.head ≡ 0) }
+    {
+        let mut lists: Vec<Vec<ClauseId>> = Vec::new(alloc);
+        for filled in 0..2 * vars as usize {
+            lists.push(Vec::new(alloc))?;
+        }
+        Ok(Watches {
+            lists,
+            pairs: Vec::new(alloc),
+            head: 0,
+        })
+    }
+
+    /// How many literals of the trail were looked at.
+    pub fn head(&self) -> usize
+        ensures { result ≡ self.now.head }
+    {
+        self.head
+    }
+
+    pub fn set_head(&mut self, head: usize)
+        ensures head { self.new.head ≡ head }
+        ensures lists { self.new.lists ≡ self.old.lists }
+        ensures pairs { self.new.pairs ≡ self.old.pairs }
+    {
+        self.head = head;
+    }
+
+    /// Watches two literals of the clause of the next id.
+    pub fn watch(&mut self, id: ClauseId, two: Pair) -> Result<(), AllocError>
+        requires next { id.0 ≡ length self.old.pairs }
+        requires first { slot_of two.first < length self.old.lists }
+        requires second { slot_of two.second < length self.old.lists }
+        ensures { OnOk result (IsAdded self.old self.new id two) }
+    {
+        self.pairs.push(two)?;
+        self.add_under(two.first, id)?;
+        self.add_under(two.second, id)?;
+        Ok(())
+    }
+
+    /// The next id is dead.
+    pub fn pass_over(&mut self) -> Result<(), AllocError>
+        ensures pairs { OnOk result (self.new.pairs ≡ self.old.pairs ++ no_pair ∷ []) }
+        ensures lists { self.new.lists ≡ self.old.lists }
+        ensures head { self.new.head ≡ self.old.head }
+    {
+        let none = Lit {
+            var: 0,
+            negative: false,
+        };
+        self.pairs.push(Pair {
+            first: none,
+            second: none,
+        })?;
+        Ok(())
+    }
+
     /// How many ids stand under a literal.
     pub fn len_under(&self, l: Lit) -> usize
         requires { slot_of l < length self.now.lists }
@@ -125,6 +145,7 @@ impl Watches {
         requires { slot_of l < length self.old.lists }
         ensures lists { OnOk result (self.new.lists ≡ slice_set self.old.lists (slot_of l) (listed self.old.lists l ++ id ∷ [])) }
         ensures pairs { self.new.pairs ≡ self.old.pairs }
+        ensures head { self.new.head ≡ self.old.head }
     {
         self.lists[slot(l)].push(id)?;
         Ok(())
@@ -148,116 +169,4 @@ impl Watches {
     {
         self.pairs[id.0 as usize] = two;
     }
-}
-
-/// Looks at each clause that watches the literal, which became false: some move to another literal, some force one.
-pub fn pass(
-    arena: &ClauseArena,
-    trail: &mut Trail,
-    watches: &mut Watches,
-    head: usize,
-    gone: Lit,
-) -> Result<Option<ClauseId>, AllocError>
-    requires below { AllClauses (is_below (vars_of trail.old)) arena.now.clauses }
-    requires kept { IsKept arena.now.clauses trail.old }
-    requires sized { IsSized arena.now.clauses (vars_of trail.old) watches.old.lists watches.old.pairs }
-    requires head { head < length trail.old.lits.items }
-    requires here { (d : Littered) → slice_index_or trail.old.lits.items head d ≡ opposite gone }
-    requires forced { AreForcedFrom (reasons_of trail.old) (head + 1) }
-    requires small { gone.var < vars_of trail.old }
-    requires watched { IsWatched arena.now.clauses trail.old.lits.items (reasons_of trail.old) head watches.old.lists watches.old.pairs }
-    ensures spread { OnOk result (Spreads arena.now.clauses trail.old trail.new) }
-    ensures sized { OnOk result (IsSized arena.now.clauses (vars_of trail.new) watches.new.lists watches.new.pairs) }
-    ensures watched { OnOk result (IsWatched arena.now.clauses trail.new.lits.items (reasons_of trail.new) head watches.new.lists watches.new.pairs) }
-    ensures here { OnOk result ((d : Littered) → slice_index_or trail.new.lits.items head d ≡ opposite gone) }
-    ensures forced { OnOk result (AreForcedFrom (reasons_of trail.new) (head + 1)) }
-    ensures passed { IfOk result (λ found. MatchOption found (AreVisited arena.now.clauses trail.new.lits.items watches.new.lists watches.new.pairs gone (length (listed watches.new.lists gone))) (IsConflict arena.now.clauses trail.new.lits.items)) }
-{
-    let mut i = 0;
-    'list: while i < watches.len_under(gone) {
-        let id = watches.id_under(gone, i);
-        if !arena.is_live(id) {
-            i += 1;
-            continue;
-        }
-        let other = match watches.other_of(id, gone) {
-            None => {
-                i += 1;
-                continue;
-            }
-            Some(other) => other,
-        };
-        match find_watch(trail, arena.lits(id), other) {
-            Visit::Stays => {
-                i += 1;
-                continue;
-            }
-            Visit::Falsified => return Ok(Some(id)),
-            Visit::Forces(l) => {
-                trail.push(l, Some(id))?;
-                i += 1;
-                continue;
-            }
-            Visit::Moves(z) => {
-                watches.add_under(z, id)?;
-                watches.take_under(gone, i);
-                watches.set_pair(
-                    id,
-                    Pair {
-                        first: z,
-                        second: other,
-                    },
-                );
-                continue;
-            }
-        }
-    }
-    Ok(None)
-}
-
-/// How far the trail was looked at, and the clause that is false, if one is.
-#[derive(Clone, Copy)]
-pub struct Reached {
-    pub head: usize,
-    pub found: Option<ClauseId>,
-}
-
-/// Makes literals true until no clause forces one, or a clause is false.
-pub fn propagate_watched(
-    arena: &ClauseArena,
-    trail: &mut Trail,
-    watches: &mut Watches,
-    head: usize,
-) -> Result<Reached, AllocError>
-    requires below { AllClauses (is_below (vars_of trail.old)) arena.now.clauses }
-    requires kept { IsKept arena.now.clauses trail.old }
-    requires sized { IsSized arena.now.clauses (vars_of trail.old) watches.old.lists watches.old.pairs }
-    requires head { head ≤ length trail.old.lits.items }
-    requires forced { AreForcedFrom (reasons_of trail.old) (head + 1) }
-    requires watched { IsWatched arena.now.clauses trail.old.lits.items (reasons_of trail.old) head watches.old.lists watches.old.pairs }
-    ensures spread { OnOk result (Spreads arena.now.clauses trail.old trail.new) }
-    ensures sized { OnOk result (IsSized arena.now.clauses (vars_of trail.new) watches.new.lists watches.new.pairs) }
-    ensures watched { IfOk result (λ r. IsWatched arena.now.clauses trail.new.lits.items (reasons_of trail.new) r.head watches.new.lists watches.new.pairs) }
-    ensures from { IfOk result (λ r. head ≤ r.head) }
-    ensures to { IfOk result (λ r. r.head ≤ length trail.new.lits.items) }
-    ensures settled { IfOk result (λ r. IsSettled arena.now.clauses trail.new.lits.items r.found) }
-{
-    let mut at = head;
-    'spread: while at < trail.lits.len() {
-        let gone = negated(trail.lits[at]);
-        match pass(arena, trail, watches, at, gone)? {
-            Some(id) => {
-                return Ok(Reached {
-                    head: at,
-                    found: Some(id),
-                });
-            }
-            None => {}
-        }
-        at += 1;
-    }
-    Ok(Reached {
-        head: at,
-        found: None,
-    })
 }

@@ -1,9 +1,11 @@
 use Rattle.std.proofs.Common.{refl, subst, ◌∙◌}
 use Rattle.cdcl.specs.declared.turn.Outcome.{Outcome}
-use Rattle.cdcl.specs.Turn.{IsTurn}
+use Rattle.cdcl.specs.Turn.{IsTurn, OnAgain}
+use Rattle.cdcl.specs.Watching.{IsWatching}
 use Rattle.cdcl.proofs.Keeping.{keeps-same}
 use Rattle.cdcl.proofs.Solves.{searching-model}
-use Rattle.cdcl.proofs.Answered.{refuted-first, refutation-is, searching-turn, turn-smaller, spent-turn, never-spent-turn, keeps-turn}
+use Rattle.cdcl.proofs.Answered.{open-from, searching-begun, refuted-first, refutation-is, searching-turn, turn-smaller, spent-turn, never-spent-turn, keeps-turn}
+use Rattle.std.proofs.lemmas.Bool.{both_ways}
 use Rattle.cdcl.proofs.solve_counted.Goals as goal
 
 pub returns-then-has_empty_clause-clause-answer : goal.returns-then-has_empty_clause-clause-answer
@@ -40,6 +42,7 @@ search-preserved g c = (
   searching-turn c.args.arena.now.clauses c.search.arena.clauses c.turn.new.arena.clauses c.search.log c.turn.new.log c.args.vars c.args.budget c.search.trail c.turn.new.trail
       (subst (λ (o : Outcome). IsTurn c.search.arena.clauses c.search.log c.search.trail c.turn.new.arena.clauses c.turn.new.log c.turn.new.trail c.args.budget o) c.in-Again.is c.in_ok-turn.ensures.turned) c.search.invariant.0,
   c.turn.ensures.ready ∙ c.search.invariant.1,
+  subst (OnAgain (IsWatching c.turn.new.arena.clauses c.turn.new.trail c.turn.new.watches)) c.in-Again.is c.in_ok-turn.ensures.watching,
 )
 
 pub returns-in-Satisfied-clause-answer : goal.returns-in-Satisfied-clause-answer
@@ -61,3 +64,19 @@ pub returns-in-Spent-clause-earned : goal.returns-in-Spent-clause-earned
 returns-in-Spent-clause-earned g c l =
     never-spent-turn c.args.arena.now.clauses c.search.arena.clauses c.turn.new.arena.clauses c.search.log c.turn.new.log c.args.vars c.args.budget c.search.trail
     (subst (λ (o : Outcome). IsTurn c.search.arena.clauses c.search.log c.search.trail c.turn.new.arena.clauses c.turn.new.log c.turn.new.trail c.args.budget o) c.in-Spent.is c.in_ok-turn.ensures.turned) c.requires.below l c.search.invariant.0
+
+pub returns-in_err-watches-clause-kept : goal.returns-in_err-watches-clause-kept
+returns-in_err-watches-clause-kept g c = keeps-same c.args.arena.now.clauses c.args.arena.now.clauses refl
+
+pub returns-in_err-conflict-clause-kept : goal.returns-in_err-conflict-clause-kept
+returns-in_err-conflict-clause-kept g c = keeps-same c.args.arena.now.clauses c.args.arena.now.clauses refl
+
+pub refute-requires-clause-open : goal.refute-requires-clause-open
+refute-requires-clause-open g c = open-from c.args.arena.now.clauses (λ w. both_ways _ c.if-has_empty_clause.false (c.has_empty_clause.ensures.1 w))
+
+pub returns-in-Some-clause-answer : goal.returns-in-Some-clause-answer
+returns-in-Some-clause-answer g c =
+    refutation-is c.args.arena.now.clauses c.args.arena.now.clauses c.refute.new.arena.clauses c.new-log.result c.refute.new.log c.args.vars c.args.budget c.watch_all.new.trail c.in_ok-refute-in-Some.ensures.refuted
+    (searching-begun c.args.arena.now.clauses c.args.vars c.args.budget c.in_ok-trail.trail c.watch_all.new.trail c.new-log.result c.requires.below c.requires.some
+    (open-from c.args.arena.now.clauses (λ w. both_ways _ c.if-has_empty_clause.false (c.has_empty_clause.ensures.1 w)))
+    c.new-log.ensures c.in_ok-trail.ensures.empty c.in_ok-trail.ensures.vars c.in_ok-conflict.ensures.spread)

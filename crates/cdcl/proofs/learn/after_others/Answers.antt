@@ -2,7 +2,7 @@ use Rattle.std.proofs.Common.{length, get_or, arith}
 use Rattle.cdcl.proofs.Back.{zero_lit}
 use Rattle.cdcl.proofs.Looks.{has-at}
 use Rattle.cdcl.proofs.Reasons.{false-below}
-use Rattle.cdcl.proofs.Levels.{others-skip, others-next, others-whole, others-asserting, others-quiet, place-at}
+use Rattle.cdcl.proofs.Levels.{others-skip, others-next, others-whole, others-asserting, others-quiet, others-last, place-at}
 use Rattle.cdcl.proofs.learn.after_others.Goals as goal
 
 pub index-place-requires : goal.index-place-requires
@@ -48,3 +48,8 @@ pub returns-clause-quiet : goal.returns-clause-quiet
 returns-clause-quiet c k l =
     others-quiet c.args.trail.now.lits.items c.args.trail.now.places.items c.args.start c.args.learned.now c.loop-l.end k c.args.trail.now.consistent c.args.trail.now.placed c.requires.place c.requires.falsified c.requires.asserting
     (others-whole c.args.trail.now.lits.items c.args.trail.now.places.items c.args.start c.args.learned.now c.loop-l.l-index c.loop-l.end c.loop-l.auto.l-index-end c.loop-l-test.false c.loop-l.invariant) l
+
+pub returns-clause-last : goal.returns-clause-last
+returns-clause-last c m b =
+    others-last c.args.trail.now.lits.items c.args.trail.now.places.items c.args.start c.args.learned.now c.loop-l.end m c.args.trail.now.placed c.requires.falsified
+    (others-whole c.args.trail.now.lits.items c.args.trail.now.places.items c.args.start c.args.learned.now c.loop-l.l-index c.loop-l.end c.loop-l.auto.l-index-end c.loop-l-test.false c.loop-l.invariant) b

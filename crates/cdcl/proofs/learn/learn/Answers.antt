@@ -1,4 +1,4 @@
-use Rattle.std.proofs.Common.{◌≡◌, ℕ, ◌<◌, Option, None, true, List, get_or, take, refl, arith, ap, ◌∙◌, subst, sym}
+use Rattle.std.proofs.Common.{◌≡◌, ℕ, ◌<◌, Option, None, true, List, length, get_or, take, refl, arith, ap, ◌∙◌, subst, sym}
 use Rattle.clause_arena.specs.declared.Lit.{Lit}
 use Rattle.clause_arena.specs.declared.ClauseId.{ClauseId}
 use Rattle.clause_arena.specs.Clause.{Clause, has}
@@ -8,6 +8,14 @@ use Rattle.cdcl.specs.Held.{vars_of, reasons_of, IsChainOf}
 use Rattle.cdcl.proofs.Back.{false-subset}
 use Rattle.cdcl.proofs.Keeping.{keeps-same, keeps-push}
 use Rattle.cdcl.proofs.Learned.{two-at, asserting-same, learned-all, kept-back}
+use Rattle.std.proofs.lemmas.Bool.{and_parts}
+use Rattle.clause_arena.specs.Clause.{is_below}
+use Rattle.res_log.specs.Partial.{is_false, is_forced}
+use Rattle.cdcl.specs.Watching.{HasNewest, IsAdded}
+use Rattle.cdcl.proofs.Reasons.{all-below}
+use Rattle.cdcl.proofs.Arrays.{below-at}
+use Rattle.cdcl.proofs.Passing.{slot-below}
+use Rattle.cdcl.proofs.Watching.{watching-learned, pushed-kept, second-in}
 use Rattle.cdcl.proofs.learn.learn.Goals as goal
 
 pub resolve_back-requires-clause-two : goal.resolve_back-requires-clause-two
@@ -24,14 +32,14 @@ returns-in_err-learned-clause-clauses c = keeps-same c.args.arena.now.clauses c.
 same : (c d e f : Clause) → c ≡ d → ((m : Lit) → has d m ≡ has e m) → e ≡ f → (m : Lit) → has c m ≡ has f m
 same c d e f a b g m = ap (λ (x : Clause). has x m) a ∙ b m ∙ ap (λ (x : Clause). has x m) g
 
-pub level_end-end-requires-clause-falsified : goal.level_end-end-requires-clause-falsified
-level_end-end-requires-clause-falsified c =
+pub level_end-level-requires-clause-falsified : goal.level_end-level-requires-clause-falsified
+level_end-level-requires-clause-falsified c =
     false-subset c.args.trail.now.lits.items c.in_ok-resolved.resolved.items c.as_slice-2.result.now
     (λ m h. sym (same c.as_slice-2.result.now c.in_ok-learned.learned.items c.as_slice.result.now c.in_ok-resolved.resolved.items c.as_slice-2.ensures c.in_ok-learned.ensures.same c.as_slice.ensures m) ∙ h)
     c.in_ok-resolved.ensures.falsified
 
-pub level_end-end-requires-clause-asserting : goal.level_end-end-requires-clause-asserting
-level_end-end-requires-clause-asserting c =
+pub level_end-level-requires-clause-asserting : goal.level_end-level-requires-clause-asserting
+level_end-level-requires-clause-asserting c =
     asserting-same (take c.args.start c.args.trail.now.lits.items) c.in_ok-resolved.resolved.items c.as_slice-2.result.now
     (same c.as_slice-2.result.now c.in_ok-learned.learned.items c.as_slice.result.now c.in_ok-resolved.resolved.items c.as_slice-2.ensures c.in_ok-learned.ensures.same c.as_slice.ensures)
     c.in_ok-resolved.ensures.asserting
@@ -55,10 +63,73 @@ returns-clause-learned c =
     (same c.as_slice-3.result.now c.in_ok-learned.learned.items c.as_slice.result.now c.in_ok-resolved.resolved.items c.as_slice-3.ensures c.in_ok-learned.ensures.same c.as_slice.ensures)
     c.in_ok-id.ensures.stored c.in_ok-id.ensures.next c.in_ok-append.ensures.stored
 
+-- the learned clause is false under the trail
+learned-false : (p : List Lit) (r c : Clause) → ((m : Lit) → has c m ≡ has r m) → is_false p r ≡ true → is_false p c ≡ true
+learned-false p r c s f = false-subset p r c (λ m h. sym (s m) ∙ h) f
+
+pub asserted-first-requires-clause-below : goal.asserted-first-requires-clause-below
+asserted-first-requires-clause-below c =
+    subst (λ (n : ℕ). is_below n c.as_slice-4.result.now ≡ true) (sym c.back_to.ensures.vars)
+    (all-below (vars_of c.args.trail.now) c.args.trail.now.lits.items c.as_slice-4.result.now c.args.trail.now.below
+    (learned-false c.args.trail.now.lits.items c.in_ok-resolved.resolved.items c.as_slice-4.result.now
+    (same c.as_slice-4.result.now c.in_ok-learned.learned.items c.as_slice.result.now c.in_ok-resolved.resolved.items c.as_slice-4.ensures c.in_ok-learned.ensures.same c.as_slice.ensures)
+    c.in_ok-resolved.ensures.falsified))
+
+pub push-requires-2-clause-below : goal.push-requires-2-clause-below
+push-requires-2-clause-below c = below-at (vars_of c.back_to.new.self) c.as_slice-4.result.now c.asserted-first.result
+    (subst (λ (n : ℕ). is_below n c.as_slice-4.result.now ≡ true) (sym c.back_to.ensures.vars)
+    (all-below (vars_of c.args.trail.now) c.args.trail.now.lits.items c.as_slice-4.result.now c.args.trail.now.below
+    (learned-false c.args.trail.now.lits.items c.in_ok-resolved.resolved.items c.as_slice-4.result.now
+    (same c.as_slice-4.result.now c.in_ok-learned.learned.items c.as_slice.result.now c.in_ok-resolved.resolved.items c.as_slice-4.ensures c.in_ok-learned.ensures.same c.as_slice.ensures)
+    c.in_ok-resolved.ensures.falsified)))
+    (and_parts _ _ c.asserted-first.ensures.forced).0
+
+pub returns-in_err-push-clause-clauses : goal.returns-in_err-push-clause-clauses
+returns-in_err-push-clause-clauses c = keeps-push c.args.arena.now.clauses c.push.new.self.clauses c.as_slice-3.result.now c.in_ok-id.ensures.stored
+
+pub watch-requires-clause-second : goal.watch-requires-clause-second
+watch-requires-clause-second c =
+    slot-below c.unwrap_or-second.result (vars_of c.args.trail.now) c.set_head.new.self.lists
+    (below-at (vars_of c.args.trail.now) c.as_slice-4.result.now c.unwrap_or-second.result
+    (all-below (vars_of c.args.trail.now) c.args.trail.now.lits.items c.as_slice-4.result.now c.args.trail.now.below
+    (learned-false c.args.trail.now.lits.items c.in_ok-resolved.resolved.items c.as_slice-4.result.now
+    (same c.as_slice-4.result.now c.in_ok-learned.learned.items c.as_slice.result.now c.in_ok-resolved.resolved.items c.as_slice-4.ensures c.in_ok-learned.ensures.same c.as_slice.ensures)
+    c.in_ok-resolved.ensures.falsified))
+    (ap (has c.as_slice-4.result.now) c.unwrap_or-second.ensures
+    ∙ second-in c.args.trail.now.lits.items (reasons_of c.args.trail.now) c.as_slice-4.result.now c.level_end-level.result.end c.level_end-level.result.newest c.asserted-first.result
+    (subst (λ (x : Clause). HasNewest c.args.trail.now.lits.items (reasons_of c.args.trail.now) x c.level_end-level.result.end c.level_end-level.result.newest) (c.as_slice-2.ensures ∙ sym c.as_slice-4.ensures) c.level_end-level.ensures.newest)
+    (and_parts _ _ c.asserted-first.ensures.forced).0))
+    (ap length c.set_head.ensures.lists ∙ c.requires.watching.sized.one_list_each)
+
+pub returns-in_err-watch-clause-clauses : goal.returns-in_err-watch-clause-clauses
+returns-in_err-watch-clause-clauses c = keeps-push c.args.arena.now.clauses c.push.new.self.clauses c.as_slice-3.result.now c.in_ok-id.ensures.stored
+
 pub returns-clause-kept : goal.returns-clause-kept
 returns-clause-kept c =
-    kept-back c.args.arena.now.clauses c.push.new.self.clauses c.args.trail.now c.back_to.new.self c.level_end-end.result c.as_slice-3.result.now
-    c.requires.kept (omega (arith, c.level_end-end.ensures.within, c.requires.last.0, c.requires.kept.lengths))
-    (subst (λ (x : Clause). (k : ℕ) (o : Option ClauseId) → k < c.level_end-end.result → get_or (reasons_of c.args.trail.now) k o ≡ None → is_quiet (take k c.args.trail.now.lits.items) x ≡ true)
-    (c.as_slice-2.ensures ∙ sym c.as_slice-3.ensures) c.level_end-end.ensures.quiet)
-    c.in_ok-id.ensures.stored c.back_to.ensures.back c.back_to.ensures.reasoned c.back_to.ensures.vars
+    pushed-kept c.args.arena.now.clauses c.push.new.self.clauses c.args.trail.now c.back_to.new.self c.push-2.new.self c.as_slice-3.result.now c.asserted-first.result c.in_ok-id.id c.requires.below
+    (all-below (vars_of c.args.trail.now) c.args.trail.now.lits.items c.as_slice-3.result.now c.args.trail.now.below
+    (learned-false c.args.trail.now.lits.items c.in_ok-resolved.resolved.items c.as_slice-3.result.now
+    (same c.as_slice-3.result.now c.in_ok-learned.learned.items c.as_slice.result.now c.in_ok-resolved.resolved.items c.as_slice-3.ensures c.in_ok-learned.ensures.same c.as_slice.ensures)
+    c.in_ok-resolved.ensures.falsified))
+    c.back_to.ensures.vars c.in_ok-id.ensures.stored c.in_ok-id.ensures.next
+    (kept-back c.args.arena.now.clauses c.push.new.self.clauses c.args.trail.now c.back_to.new.self c.level_end-level.result.end c.as_slice-3.result.now
+    c.requires.kept (omega (arith, c.level_end-level.ensures.within, c.requires.last.0, c.requires.kept.lengths))
+    (subst (λ (x : Clause). (k : ℕ) (o : Option ClauseId) → k < c.level_end-level.result.end → get_or (reasons_of c.args.trail.now) k o ≡ None → is_quiet (take k c.args.trail.now.lits.items) x ≡ true)
+    (c.as_slice-2.ensures ∙ sym c.as_slice-3.ensures) c.level_end-level.ensures.quiet)
+    c.in_ok-id.ensures.stored c.back_to.ensures.back c.back_to.ensures.reasoned c.back_to.ensures.vars)
+    c.asserted-first.ensures.free
+    (ap (is_forced c.back_to.new.self.lits.items c.asserted-first.result) (c.as_slice-3.ensures ∙ sym c.as_slice-4.ensures) ∙ c.asserted-first.ensures.forced)
+    c.in_ok-push.ensures.pushed c.in_ok-push.ensures.reasoned c.push-2.ensures.vars
+
+pub returns-clause-watching : goal.returns-clause-watching
+returns-clause-watching c =
+    let l = c.asserted-first.result in
+    let newest = c.level_end-level.result.newest in
+    watching-learned c.args.arena.now.clauses c.push.new.self.clauses c.args.trail.now c.back_to.new.self c.push-2.new.self c.args.watches.now c.set_head.new.self c.watch.new.self c.args.start c.level_end-level.result.end
+    c.as_slice-3.result.now l newest c.in_ok-id.id c.requires.kept c.requires.last c.level_end-level.ensures.within c.level_end-level.ensures.decided
+    c.back_to.ensures.back c.back_to.ensures.reasoned c.back_to.ensures.vars c.in_ok-id.ensures.stored c.in_ok-id.ensures.next c.asserted-first.ensures.free
+    (ap (λ (x : Clause). has x l) (c.as_slice-3.ensures ∙ sym c.as_slice-4.ensures) ∙ (and_parts _ _ c.asserted-first.ensures.forced).0)
+    (subst (λ (x : Clause). HasNewest c.args.trail.now.lits.items (reasons_of c.args.trail.now) x c.level_end-level.result.end newest) (c.as_slice-2.ensures ∙ sym c.as_slice-3.ensures) c.level_end-level.ensures.newest)
+    c.in_ok-push.ensures.pushed c.in_ok-push.ensures.reasoned c.push-2.ensures.vars c.set_head.ensures.head c.set_head.ensures.lists c.set_head.ensures.pairs
+    (subst (λ (m : Lit). IsAdded c.set_head.new.self c.watch.new.self c.in_ok-id.id (record { first = l; second = m })) c.unwrap_or-second.ensures c.in_ok-watch.ensures)
+    c.requires.watching

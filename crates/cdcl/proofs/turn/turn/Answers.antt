@@ -5,6 +5,7 @@ use Rattle.cdcl.specs.Trail.{AllClauses}
 use Rattle.cdcl.specs.Work.{IsConflict}
 use Rattle.cdcl.proofs.Keeping.{keeps-same}
 use Rattle.cdcl.proofs.Solves.{settled-none, decides-is, model-found}
+use Rattle.cdcl.proofs.Watching.{watching-decided}
 use Rattle.cdcl.proofs.turn.turn.Goals as goal
 
 pub returns-in_err-conflict-clause-clauses : goal.returns-in_err-conflict-clause-clauses
@@ -37,3 +38,8 @@ returns-in_ok-model_of-in-None-next_decision-clause-turned g c = (
       (settled-none (AllClauses (is_quiet c.propagate_counted.new.trail.lits.items) c.args.arena.now.clauses) (IsConflict c.args.arena.now.clauses c.propagate_counted.new.trail.lits.items) c.in_ok-conflict.field-0 c.in-None.is c.in_ok-conflict.ensures.settled)
       c.in-None-next_decision.ensures.free c.in_ok-model_of-in-None-next_decision.ensures.size c.in_ok-model_of-in-None-next_decision.ensures.values c.in_ok-conflict.ensures.spread,
 )
+
+pub returns-in_ok-push-in-Some-next_decision-clause-watching : goal.returns-in_ok-push-in-Some-next_decision-clause-watching
+returns-in_ok-push-in-Some-next_decision-clause-watching g c =
+    watching-decided c.args.arena.now.clauses c.propagate_counted.new.trail c.push.new.self c.propagate_counted.new.watches (lit true c.in-Some-next_decision.var) c.in_ok-conflict.ensures.spread.kept
+    (c.in_ok-conflict.ensures.seen c.in-None.is) c.in_ok-push-in-Some-next_decision.ensures.pushed c.in_ok-push-in-Some-next_decision.ensures.reasoned c.push.ensures.vars c.in_ok-conflict.ensures.watching

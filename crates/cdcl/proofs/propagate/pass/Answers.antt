@@ -1,6 +1,5 @@
-use Rattle.std.proofs.Common.{◌≡◌, ◌<◌, ◌-◌, ◌+◌, ◌∷◌, [], List, Some, length, get_or, length-append, set, sym, ap, ◌∙◌, subst, arith}
+use Rattle.std.proofs.Common.{◌≡◌, ◌<◌, ◌-◌, ◌+◌, ◌∷◌, [], List, length, get_or, length-append, set, sym, ap, ◌∙◌, subst, arith}
 use Rattle.std.proofs.lemmas.Bool.{and_parts}
-use Rattle.clause_arena.specs.Clause.{is_below}
 use Rattle.cdcl.specs.Trail.{Reasons, AreForcedFrom}
 use Rattle.clause_arena.specs.declared.Lit.{Lit}
 use Rattle.cdcl.specs.Held.{vars_of, reasons_of}
@@ -10,7 +9,7 @@ use Rattle.cdcl.proofs.Sweeps.{forced-below, spreads-push, spreads-refl}
 use Rattle.cdcl.specs.declared.watch.Pair.{Pair}
 use Rattle.clause_arena.specs.declared.ClauseId.{ClauseId}
 use Rattle.cdcl.proofs.Passing.{gone-here, here-push, forced-push, moved_lists, moved-is, Passing, passing-other, passing-force, passing-move, passing-smaller, passing-at, passing-in, visited-start, slot-below}
-use Rattle.cdcl.proofs.watch.pass.Goals as goal
+use Rattle.cdcl.proofs.propagate.pass.Goals as goal
 
 pub list-init : goal.list-init
 list-init c = record {

@@ -1,8 +1,8 @@
-use Rattle.std.proofs.Common.{◌≡◌, ◌≤◌, ◌-◌, ◌+◌, length}
+use Rattle.std.proofs.Common.{◌≤◌, ◌-◌, ◌+◌, length}
 use Rattle.cdcl.specs.Trail.{AreForcedFrom}
 use Rattle.cdcl.specs.Held.{Spreads, vars_of, reasons_of}
 use Rattle.cdcl.specs.Watched.{IsWatched, IsSized}
-use Rattle.cdcl.proofs.watch.propagate_watched.Given as goal
+use Rattle.cdcl.proofs.propagate.propagate_from.Given as goal
 
 abbrev pub invariant-spread : goal.invariant-spread
 invariant-spread l = record {

@@ -4,7 +4,7 @@ use Rattle.cdcl.specs.Trail.{AreForcedFrom}
 use Rattle.clause_arena.specs.Clause.{opposite}
 use Rattle.cdcl.specs.Held.{Spreads, vars_of, reasons_of}
 use Rattle.cdcl.specs.Watched.{IsWatched, IsSized, AreVisited, listed}
-use Rattle.cdcl.proofs.watch.pass.Given as goal
+use Rattle.cdcl.proofs.propagate.pass.Given as goal
 
 abbrev pub invariant-list : goal.invariant-list
 invariant-list l = record {

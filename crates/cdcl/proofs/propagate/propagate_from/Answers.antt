@@ -1,20 +1,13 @@
-use Rattle.std.proofs.Common.{◌≡◌, ◌<◌, ◌≤◌, ◌+◌, ◌-◌, ℕ, Some, None, length, get_or, List, Option, refl, sym, ap, ◌∙◌, subst, arith}
-use Rattle.clause_arena.specs.declared.Lit.{Lit}
+use Rattle.std.proofs.Common.{◌≡◌, ◌<◌, ◌+◌, ℕ, length, Option, subst, arith}
 use Rattle.clause_arena.specs.declared.ClauseId.{ClauseId}
-use Rattle.clause_arena.specs.Clause.{opposite, is_below, Clauses}
 use Rattle.cdcl.specs.Held.{vars_of, reasons_of}
-use Rattle.cdcl.specs.Trail.{AllClauses}
 use Rattle.cdcl.specs.Watched.{IsWatched, AreVisited, listed}
 use Rattle.std.specs.Prelude.{MatchOption}
 use Rattle.cdcl.specs.Work.{IsConflict}
-use Rattle.cdcl.proofs.Arrays.{below-at}
-use Rattle.cdcl.proofs.Looks.{has-at}
-use Rattle.cdcl.proofs.Back.{zero_lit, get_or-any}
-use Rattle.cdcl.proofs.Forced.{opposite-opposite}
 use Rattle.cdcl.proofs.Sweeps.{spreads-refl, spreads-then, kept-size}
 use Rattle.cdcl.proofs.Watches.{watched-settled}
 use Rattle.cdcl.proofs.Passing.{looked-next, forced-later}
-use Rattle.cdcl.proofs.watch.propagate_watched.Goals as goal
+use Rattle.cdcl.proofs.propagate.propagate_from.Goals as goal
 
 pub spread-init : goal.spread-init
 spread-init c = record {
