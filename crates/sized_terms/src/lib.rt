@@ -45,12 +45,7 @@ pub fn one(terms: &mut Terms, op: Op1, a: SizedTerm) -> Result<SizedTerm, AllocE
 }
 
 /// An operation on two terms of one width.
-pub fn two(
-    terms: &mut Terms,
-    op: Op2,
-    a: SizedTerm,
-    b: SizedTerm,
-) -> Result<SizedTerm, AllocError>
+pub fn two(terms: &mut Terms, op: Op2, a: SizedTerm, b: SizedTerm) -> Result<SizedTerm, AllocError>
     requires first { Has terms.old a }
     requires second { Has terms.old b }
     requires same { b.width ≡ a.width }

@@ -1,0 +1,16 @@
+use Rattle.std.proofs.Common.{◌+◌, ◌*◌, refl, arith}
+use Rattle.std.specs.Prelude.{◌*ℤ◌}
+use Rattle.bits_core.specs.declared.op.Op2.TheVariants.{Mul}
+use Rattle.joint_ir.specs.Weights.{product_weight}
+use Rattle.checked_terms.proofs.Results.{exact_result, unsigned_result, products, product_gates, signed_product_gates}
+use Rattle.checked_terms.proofs.arith.product.Goals as goal
+
+pub returns-in_ok-r : goal.returns-in_ok-r
+returns-in_ok-r c =
+    exact_result c.args.terms.now c.signed.new.terms c.args.ty c.args.other Mul (c.args.ty.bits + c.args.ty.bits) (8 * product_weight c.args.ty) c.args.a c.args.b c.in_ok-r.r ◌*ℤ◌
+    c.if-ty.true c.requires.first c.requires.second c.requires.width_a c.requires.width_b (products c.args.ty.bits) (signed_product_gates c.args.ty c.requires.ty.some c.if-ty.true) c.in_ok-r.ensures
+
+pub returns-in_ok-r-2 : goal.returns-in_ok-r-2
+returns-in_ok-r-2 c =
+    unsigned_result c.args.terms.now c.unsigned.new.terms c.args.ty c.args.other Mul (8 * product_weight c.args.ty) c.args.a c.args.b c.in_ok-r-2.r ◌*ℤ◌
+    c.requires.ty c.if-ty.false (c.requires.wraps c.if-ty.false) c.requires.width_a refl (product_gates c.args.ty c.if-ty.false) (λ x y. refl) c.in_ok-r-2.ensures.plain c.in_ok-r-2.ensures.made
