@@ -130,29 +130,29 @@ opposite_made f g h i u a set unset x ha e S N R =
     (omega arith) (omega arith) (λ v q. refl)
 
 -- comparisons
-pub holds_made : (f g h : Graph) (op : Op2) (a b holds x : SizedTerm) → ((w : ℕ) → width2 op w ≡ 1) →
+pub holds_made : (f g h : Graph) (op : Op2) (a b holds x : SizedTerm) → Has f a → Has f b → ((w : ℕ) → width2 op w ≡ 1) →
     IsMade f g (width2 op a.width) (gates2 op a.width) 1 holds (λ v. value2 op a.width (bits v a) (bits v b)) → IsMade g h 32 0 1 x (λ v. resized 32 false holds.width (bits v holds)) →
-    (test : Values → Bool) → ((v : Values) → value2 op a.width (bits v a) (bits v b) ≡ bit (test v)) → IsChecked f h int (gates2 op a.width) 3 (plain x) (λ v. Value (bit_of (test v)))
-holds_made f g h op a b holds x one H R test is =
+    (test : Values → Bool) → ((v : Values) → bits v a < 2 ^ a.width → bits v b < 2 ^ b.width → value2 op a.width (bits v a) (bits v b) ≡ bit (test v)) → IsChecked f h int (gates2 op a.width) 3 (plain x) (λ v. Value (bit_of (test v)))
+holds_made f g h op a b holds x ha hb one H R test is =
     let all = made_then f g h 32 (gates2 op a.width) 0 1 1 x _ H.builds R in
     checked_as f h int (gates2 op a.width + 0) (gates2 op a.width) (1 + 1) 3 (plain x) _ _
     (plain_made f h int 32 (gates2 op a.width + 0) (1 + 1) x (λ v. resized 32 false holds.width (bits v holds)) (λ v. Value (bit_of (test v))) refl all (λ v q.
-    let k : bits v holds ≡ bit (test v) = H.value v (R.builds.grown v q) ∙ is v in
+    let k : bits v holds ≡ bit (test v) = H.value v (R.builds.grown v q) ∙ is v (stands_below v f h a a.width _ _ all.builds q ha refl) (stands_below v f h b b.width _ _ all.builds q hb refl) in
     ap Value (ap (λ w. number true 32 (resized 32 false w (bits v holds))) (H.width ∙ one a.width) ∙ ap (λ n. number true 32 (resized 32 false 1 n)) k ∙ bit_number (test v))))
     (omega arith) (omega arith) (λ v q. refl)
 
-pub fails_made : (f g h i : Graph) (op : Op2) (a b holds fails x : SizedTerm) → ((w : ℕ) → width2 op w ≡ 1) →
+pub fails_made : (f g h i : Graph) (op : Op2) (a b holds fails x : SizedTerm) → Has f a → Has f b → ((w : ℕ) → width2 op w ≡ 1) →
     IsMade f g (width2 op a.width) (gates2 op a.width) 1 holds (λ v. value2 op a.width (bits v a) (bits v b)) → IsMade g h holds.width 0 1 fails (λ v. value1 op1.Not holds.width (bits v holds)) →
     IsMade h i 32 0 1 x (λ v. resized 32 false fails.width (bits v fails)) →
-    (test : Values → Bool) → ((v : Values) → value2 op a.width (bits v a) (bits v b) ≡ bit (test v)) → IsChecked f i int (gates2 op a.width) 3 (plain x) (λ v. Value (bit_of (not (test v))))
-fails_made f g h i op a b holds fails x one H N R test is =
+    (test : Values → Bool) → ((v : Values) → bits v a < 2 ^ a.width → bits v b < 2 ^ b.width → value2 op a.width (bits v a) (bits v b) ≡ bit (test v)) → IsChecked f i int (gates2 op a.width) 3 (plain x) (λ v. Value (bit_of (not (test v))))
+fails_made f g h i op a b holds fails x ha hb one H N R test is =
     let both = made_then f g h holds.width (gates2 op a.width) 0 1 1 fails _ H.builds N in
     let all = made_then f h i 32 (gates2 op a.width + 0) 0 2 1 x _ both.builds R in
     checked_as f i int (gates2 op a.width + 0 + 0) (gates2 op a.width) (2 + 1) 3 (plain x) _ _
     (plain_made f i int 32 (gates2 op a.width + 0 + 0) (2 + 1) x (λ v. resized 32 false fails.width (bits v fails)) (λ v. Value (bit_of (not (test v)))) refl all (λ v q.
     let q2 = R.builds.grown v q in
     let w : holds.width ≡ 1 = H.width ∙ one a.width in
-    let k : bits v holds ≡ bit (test v) = H.value v (N.builds.grown v q2) ∙ is v in
+    let k : bits v holds ≡ bit (test v) = H.value v (N.builds.grown v q2) ∙ is v (stands_below v f i a a.width _ _ all.builds q ha refl) (stands_below v f i b b.width _ _ all.builds q hb refl) in
     let l : bits v fails ≡ bit (not (test v)) = N.value v q2 ∙ ap (λ w. 2 ^ w - 1 - bits v holds) w ∙ ap (λ n. 2 ^ 1 - 1 - n) k ∙ not_bit (test v) in
     ap Value (ap (λ w. number true 32 (resized 32 false w (bits v fails))) (N.width ∙ w) ∙ ap (λ n. number true 32 (resized 32 false 1 n)) l ∙ bit_number (not (test v)))))
     (omega arith) (omega arith) (λ v q. refl)

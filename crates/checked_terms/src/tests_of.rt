@@ -53,7 +53,7 @@ pub fn compare(
     requires same { b.width ≡ a.width }
     requires op { (w : ℕ) → width2 op w ≡ 1 }
     requires room { length terms.old.terms + 3 ≤ 2147483648 }
-    ensures { IfOk result (λ t. (test : Values → Bool) → ((v : Values) → value2 op a.width (bits v a) (bits v b) ≡ bit (test v)) → IsChecked terms.old terms.new int (gates2 op a.width) 3 (plain t) (λ v. Value (bit_of (comparison_of negated (test v))))) }
+    ensures { IfOk result (λ t. (test : Values → Bool) → ((v : Values) → bits v a < 2 ^ a.width → bits v b < 2 ^ b.width → value2 op a.width (bits v a) (bits v b) ≡ bit (test v)) → IsChecked terms.old terms.new int (gates2 op a.width) 3 (plain t) (λ v. Value (bit_of (comparison_of negated (test v))))) }
 {
     let holds = sized_terms::two(terms, op, a, b)?;
     if negated {
