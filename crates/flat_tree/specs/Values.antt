@@ -188,9 +188,9 @@ is_sure inside i = own_fixed i && inside (index_of i blank 0)
 -- a select of so many bits by an index, what is read being given by the index and the site's number: the site comes
 -- before those of the index, and there is none where nothing is read out of range
 abbrev pub indexed : Bool → Place → ℕ → Bool → Bool → Meant → (World → ℤ → ℕ → ℕ) → Meant
-indexed true place n signed fixed i read = standing n signed (own_sites i) fixed (λ x k. read x (index_of i x k) 0)
-indexed false place n signed fixed i read =
-    standing n signed (site_at place n ++ own_sites i) false (λ x k. read x (index_of i x (k + numbers_of n)) (site_number x.unknown n k))
+indexed sure place n signed fixed i read =
+    standing n signed (if sure then own_sites i else site_at place n ++ own_sites i) (sure && fixed)
+    (λ x k. if sure then read x (index_of i x k) 0 else read x (index_of i x (k + numbers_of n)) (site_number x.unknown n k))
 
 -- n bits of a word of w bits, whose lowest bit is named by an index
 abbrev pub bits_by : Place → ℕ → ℕ → ℕ → Bool → (World → ℕ) → Meant → Meant
