@@ -1,0 +1,14 @@
+-- Partway through lists.
+use Rattle.std.specs.Prelude.{◌≡◌, ℕ, List, ◌++◌, length, drop}
+use Rattle.c_tree.specs.declared.expressions.Expression.{Expression}
+use Rattle.joint_ir.specs.declared.ctype.IntType.{IntType}
+use Rattle.joint_ir.specs.declared.expr.TExpr.{TExpr}
+use Rattle.c_words.specs.declared.notes.Notes.{Notes}
+use Rattle.c_words.specs.Notes.{noted}
+use Rattle.c_names.specs.Scope.{Scope}
+use Rattle.c_statements.specs.Calls.{args_typed, args_offences, args_sites}
+
+-- after some arguments: what is left to do, from what is done
+pub record ArgsSoFar (env : List Scope) (old now : Notes) (params : List IntType) (args : List Expression) (i : ℕ) (done : List TExpr) : Type 0 where
+  pub typed_so : args_typed env (length old.sites) params 0 args ≡ done ++ args_typed env (length now.sites) params i (drop i args)
+  pub notes_so : noted old (args_offences env args) (args_sites env args) ≡ noted now (args_offences env (drop i args)) (args_sites env (drop i args))

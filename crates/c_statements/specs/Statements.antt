@@ -1,0 +1,337 @@
+-- Statements: what they declare, their offences, the properties in them, and their typed form (C99 6.8).
+use Rattle.std.specs.Prelude.{ℕ, List, [], ◌∷◌, ◌++◌, length, Option, Some, None, Bool, true, false, if◌then◌else◌}
+use Rattle.src_text.specs.declared.refusal.Place.{Place}
+use Rattle.src_text.specs.declared.kind.Kind.TheVariants.{CRedeclared, CReturn, CJump}
+use Rattle.c_tree.specs.declared.names.Identifier.{Identifier}
+use Rattle.c_tree.specs.declared.declarations.Declarator.{Declarator}
+use Rattle.c_tree.specs.declared.declarations.Declarator.TheVariants as declarator
+use Rattle.c_tree.specs.declared.declarations.Initializer.{Initializer}
+use Rattle.c_tree.specs.declared.declarations.Local.{Local}
+use Rattle.c_tree.specs.declared.expressions.Expression.{Expression}
+use Rattle.c_tree.specs.declared.statements.BlockItem.{BlockItem}
+use Rattle.c_tree.specs.declared.statements.BlockItem as block_item
+use Rattle.c_tree.specs.declared.statements.ForFirst.{ForFirst}
+use Rattle.c_tree.specs.declared.statements.ForFirst.TheVariants as for_first
+use Rattle.c_tree.specs.declared.statements.Simple.{Simple}
+use Rattle.c_tree.specs.declared.statements.Statement.{Statement}
+use Rattle.c_tree.specs.declared.statements.Statement as statement
+use Rattle.c_tree.specs.Starts.{simple_start}
+use Rattle.joint_ir.specs.declared.ctype.IntType.{IntType}
+use Rattle.joint_ir.specs.declared.expr.Slot.TheVariants.{Local as InLocals}
+use Rattle.joint_ir.specs.declared.expr.TExpr.{TExpr}
+use Rattle.joint_ir.specs.declared.program.PropId.{PropId}
+use Rattle.joint_ir.specs.declared.program.PropKind.{PropKind}
+use Rattle.joint_ir.specs.declared.program.PropKind.TheVariants as kind
+use Rattle.joint_ir.specs.declared.program.Var.{Var}
+use Rattle.joint_ir.specs.declared.stmt.SNode.{SNode, Block, Declare, If, Loop, Break, Continue, Return, Assert, Assume}
+use Rattle.joint_ir.specs.declared.stmt.TInit.{TInit}
+use Rattle.joint_ir.specs.declared.stmt.TInit.TheVariants as init
+use Rattle.joint_ir.specs.declared.stmt.TLoop.{roll-TLoop}
+use Rattle.joint_ir.specs.declared.stmt.TStmt.{TStmt}
+use Rattle.offence_order.specs.declared.Offence.{Offence}
+use Rattle.c_words.specs.declared.notes.Site.{Site}
+use Rattle.offence_order.specs.Order.{at}
+use Rattle.c_words.specs.Types.{named}
+use Rattle.c_words.specs.Marks.{number_of}
+use Rattle.c_names.specs.declared.scope.Entry.{Entry}
+use Rattle.c_names.specs.declared.scope.Entry.TheVariants as entry
+use Rattle.c_names.specs.Scope.{Scope, declare, declared_in}
+use Rattle.c_expressions.specs.Expressions.{typed_of, offences_in, sites_in, type_or_int}
+use Rattle.c_statements.specs.declared.calls.Signature.{Signature}
+use Rattle.c_statements.specs.declared.walk.Around.{Around}
+use Rattle.c_statements.specs.Calls.{init_offences, init_sites, init_typed}
+use Rattle.c_statements.specs.Simple.{simple_offences, simple_sites, simple_typed}
+use Rattle.c_statements.specs.Known.{Known, with_scopes, enter, leave_scope, more}
+
+abbrev pub is_some : {A : Type 0} → Option A → Bool
+is_some None = false
+is_some (Some x) = true
+
+abbrev pub again_offences : Place → Option Entry → List Offence
+again_offences p None = []
+again_offences p (Some e) = at p CRedeclared
+
+abbrev pub declared_name : Declarator → Identifier
+declared_name (declarator.Plain x) = x
+declared_name (declarator.Initialized x i) = x
+declared_name (declarator.Array x n) = x
+declared_name (declarator.InitializedArray x n es) = x
+
+-- an array isn't typed yet
+abbrev pub initializer_of : Declarator → Option Initializer
+initializer_of (declarator.Plain x) = None
+initializer_of (declarator.Initialized x i) = Some i
+initializer_of (declarator.Array x n) = None
+initializer_of (declarator.InitializedArray x n es) = None
+
+abbrev pub option_init_offences : List Signature → List Scope → Option Initializer → List Offence
+option_init_offences fns env None = []
+option_init_offences fns env (Some i) = init_offences fns env i
+
+abbrev pub option_init_sites : List Scope → Option Initializer → List Site
+option_init_sites env None = []
+option_init_sites env (Some i) = init_sites env i
+
+abbrev pub option_init_typed : List Signature → List Scope → (base : ℕ) → IntType → Option Initializer → TInit
+option_init_typed fns env base t None = init.Free
+option_init_typed fns env base t (Some i) = init_typed fns env base t i
+
+-- in its own initializer a name is declared and means nothing
+abbrev pub pending : Known → Identifier → List Scope
+pending k x = declare k.scopes x.name entry.Pending
+
+abbrev pub var_of : IntType → (constant : Bool) → Identifier → Var
+var_of t constant x = record { name = x.name; ty = t; length = 0; firsts = []; constant = constant }
+
+abbrev pub local_entry : ℕ → IntType → (constant : Bool) → Entry
+local_entry n t constant = entry.Object (record { slot = InLocals (number_of n); ty = t; length = 0; constant = constant })
+
+-- with the object of a name
+abbrev pub with_local : Known → IntType → (constant : Bool) → Identifier → Known
+with_local k t constant x = record {
+  fns = k.fns;
+  scopes = declare k.scopes x.name (local_entry (length k.locals) t constant);
+  locals = k.locals ++ var_of t constant x ∷ [];
+  sites = k.sites;
+}
+
+abbrev pub declarator_known : IntType → (constant : Bool) → Declarator → Known → Known
+declarator_known t constant d k =
+    with_local (more (with_scopes k (pending k (declared_name d))) (option_init_sites (pending k (declared_name d)) (initializer_of d))) t constant (declared_name d)
+
+abbrev pub declarator_offences : Known → Declarator → List Offence
+declarator_offences k d =
+    again_offences (declared_name d).place (declared_in k.scopes (declared_name d).name)
+    ++ option_init_offences k.fns (pending k (declared_name d)) (initializer_of d)
+
+abbrev pub declarator_typed : IntType → Known → Declarator → TStmt
+declarator_typed t k d = record {
+  place = (declared_name d).place;
+  node = Declare (number_of (length k.locals)) (option_init_typed k.fns (pending k (declared_name d)) (length k.sites) t (initializer_of d));
+}
+
+abbrev pub declarators_known : IntType → (constant : Bool) → List Declarator → Known → Known
+declarators_known t constant [] k = k
+declarators_known t constant (d ∷ ds) k = declarators_known t constant ds (declarator_known t constant d k)
+
+abbrev pub declarators_offences : IntType → (constant : Bool) → Known → List Declarator → List Offence
+declarators_offences t constant k [] = []
+declarators_offences t constant k (d ∷ ds) = declarator_offences k d ++ declarators_offences t constant (declarator_known t constant d k) ds
+
+abbrev pub declarators_typed : IntType → (constant : Bool) → Known → List Declarator → List TStmt
+declarators_typed t constant k [] = []
+declarators_typed t constant k (d ∷ ds) = declarator_typed t k d ∷ declarators_typed t constant (declarator_known t constant d k) ds
+
+abbrev pub local_known : Local → Known → Known
+local_known l k = declarators_known (named l.type_name.integer) (is_some l.constant) l.declarators k
+
+abbrev pub local_offences : Known → Local → List Offence
+local_offences k l = declarators_offences (named l.type_name.integer) (is_some l.constant) k l.declarators
+
+abbrev pub local_typed : Known → Local → List TStmt
+local_typed k l = declarators_typed (named l.type_name.integer) (is_some l.constant) k l.declarators
+
+abbrev pub first_known : ForFirst → Known → Known
+first_known for_first.Nothing k = k
+first_known (for_first.Local l) k = local_known l k
+first_known (for_first.Simple s) k = more k (simple_sites k.scopes s)
+
+abbrev pub first_offences : Known → ForFirst → List Offence
+first_offences k for_first.Nothing = []
+first_offences k (for_first.Local l) = local_offences k l
+first_offences k (for_first.Simple s) = simple_offences k.fns k.scopes s
+
+abbrev pub simple_stmt : Known → Simple → TStmt
+simple_stmt k s = record { place = simple_start s; node = simple_typed k.fns k.scopes (length k.sites) s }
+
+abbrev pub first_typed : Known → ForFirst → List TStmt
+first_typed k for_first.Nothing = []
+first_typed k (for_first.Local l) = local_typed k l
+first_typed k (for_first.Simple s) = simple_stmt k s ∷ []
+
+abbrev pub condition_offences : Known → Option Expression → List Offence
+condition_offences k None = []
+condition_offences k (Some e) = offences_in k.scopes e
+
+abbrev pub condition_sites : Known → Option Expression → List Site
+condition_sites k None = []
+condition_sites k (Some e) = sites_in k.scopes e
+
+abbrev pub condition_typed : Known → Option Expression → Option TExpr
+condition_typed k None = None
+condition_typed k (Some e) = Some (typed_of k.scopes (length k.sites) e)
+
+abbrev pub step_offences : Known → Option Simple → List Offence
+step_offences k None = []
+step_offences k (Some s) = simple_offences k.fns k.scopes s
+
+abbrev pub step_sites : Known → Option Simple → List Site
+step_sites k None = []
+step_sites k (Some s) = simple_sites k.scopes s
+
+abbrev pub step_typed : Known → Option Simple → Option TStmt
+step_typed k None = None
+step_typed k (Some s) = Some (simple_stmt k s)
+
+abbrev pub wrong_return : Place → Option IntType → (given : Bool) → List Offence
+wrong_return p None false = []
+wrong_return p None true = at p CReturn
+wrong_return p (Some t) false = at p CReturn
+wrong_return p (Some t) true = []
+
+abbrev pub return_offences : Place → Option IntType → Option Initializer → List Offence
+return_offences p r i = wrong_return p r (is_some i)
+
+abbrev pub return_typed : Known → Option IntType → Option Initializer → SNode
+return_typed k r None = Return None
+return_typed k r (Some i) = Return (Some (init_typed k.fns k.scopes (length k.sites) (type_or_int r) i))
+
+abbrev pub jump_offences : Place → (allowed : Bool) → List Offence
+jump_offences p allowed = if allowed then [] else at p CJump
+
+abbrev pub site_at : PropKind → Place → List Site
+site_at k p = (record { kind = k; place = p }) ∷ []
+
+-- with a property of a statement's own, and with what an expression holds
+abbrev pub own : PropKind → Place → Known → Known
+own kind p k = more k (site_at kind p)
+
+abbrev pub after_expression : Expression → Known → Known
+after_expression e k = more k (sites_in k.scopes e)
+
+abbrev pub id_of : Known → PropId
+id_of k = record { 0 = number_of (length k.sites) }
+
+abbrev pub in_a_loop : Around → Around
+in_a_loop a = record { result = a.result; in_loop = true; may_break = true }
+
+-- what is known at the condition, at the last part and at the body of a `for`
+abbrev pub at_condition : Place → ForFirst → Known → Known
+at_condition p first k = first_known first (own kind.Unwind p (enter k))
+
+abbrev pub at_step : Place → ForFirst → Option Expression → Known → Known
+at_step p first c k = more (at_condition p first k) (condition_sites (at_condition p first k) c)
+
+abbrev pub at_body : Place → ForFirst → Option Expression → Option Simple → Known → Known
+at_body p first c step k = more (at_step p first c k) (step_sites (at_step p first c k) step)
+
+-- what is known after a statement. A `switch` isn't typed yet
+abbrev mutual
+  pub known_after : Statement → Known → Known
+  known_after (statement.Compound' p _ items) k = leave_scope (known_after_row items (enter k))
+  known_after (statement.Empty p) k = k
+  known_after (statement.Simple s) k = more k (simple_sites k.scopes s)
+  known_after (statement.If' p c _ (statement.more_of-Statement s _)) k = known_after s (after_expression c k)
+  known_after (statement.IfElse' p c _ (statement.more_of-Statement s _) _ (statement.more_of-Statement t _)) k = known_after t (known_after s (after_expression c k))
+  known_after (statement.While' p c _ (statement.more_of-Statement s _)) k = known_after s (after_expression c (own kind.Unwind p k))
+  known_after (statement.Do' p _ (statement.more_of-Statement s _) c) k = after_expression c (known_after s (own kind.Unwind p k))
+  known_after (statement.For' p first c step _ (statement.more_of-Statement s _)) k = leave_scope (known_after s (at_body p first c step k))
+  known_after (statement.Switch' p e _ groups) k = k
+  known_after (statement.Break p) k = k
+  known_after (statement.Continue p) k = k
+  known_after (statement.Return p i) k = more k (option_init_sites k.scopes i)
+  known_after (statement.Assert p e) k = after_expression e (own kind.Assertion p k)
+  known_after (statement.CproverAssert p e) k = after_expression e (own kind.Assertion p k)
+  known_after (statement.CproverAssume p e) k = after_expression e k
+
+  pub known_after_item : BlockItem → Known → Known
+  known_after_item (block_item.Local l) k = local_known l k
+  known_after_item (block_item.Statement s) k = known_after s k
+
+  pub known_after_row : {m : _} → statement.Row_of-BlockItem m → Known → Known
+  known_after_row statement.end_of-BlockItem k = k
+  known_after_row (statement.more_of-BlockItem x row) k = known_after_row row (known_after_item x k)
+
+abbrev mutual
+  pub offences_of : Around → Known → Statement → List Offence
+  offences_of a k (statement.Compound' p _ items) = row_offences a (enter k) items
+  offences_of a k (statement.Empty p) = []
+  offences_of a k (statement.Simple s) = simple_offences k.fns k.scopes s
+  offences_of a k (statement.If' p c _ (statement.more_of-Statement s _)) = offences_in k.scopes c ++ offences_of a (after_expression c k) s
+  offences_of a k (statement.IfElse' p c _ (statement.more_of-Statement s _) _ (statement.more_of-Statement t _)) =
+      offences_in k.scopes c ++ (offences_of a (after_expression c k) s ++ offences_of a (known_after s (after_expression c k)) t)
+  offences_of a k (statement.While' p c _ (statement.more_of-Statement s _)) =
+      offences_in k.scopes c ++ offences_of (in_a_loop a) (after_expression c (own kind.Unwind p k)) s
+  offences_of a k (statement.Do' p _ (statement.more_of-Statement s _) c) =
+      let k' = own kind.Unwind p k in
+      offences_of (in_a_loop a) k' s ++ offences_in (known_after s k').scopes c
+  offences_of a k (statement.For' p first c step _ (statement.more_of-Statement s _)) =
+      first_offences (own kind.Unwind p (enter k)) first
+      ++ (condition_offences (at_condition p first k) c ++ (step_offences (at_step p first c k) step ++ offences_of (in_a_loop a) (at_body p first c step k) s))
+  offences_of a k (statement.Switch' p e _ groups) = []
+  offences_of a k (statement.Break p) = jump_offences p a.may_break
+  offences_of a k (statement.Continue p) = jump_offences p a.in_loop
+  offences_of a k (statement.Return p i) = return_offences p a.result i ++ option_init_offences k.fns k.scopes i
+  offences_of a k (statement.Assert p e) = offences_in k.scopes e
+  offences_of a k (statement.CproverAssert p e) = offences_in k.scopes e
+  offences_of a k (statement.CproverAssume p e) = offences_in k.scopes e
+
+  pub item_offences : Around → Known → BlockItem → List Offence
+  item_offences a k (block_item.Local l) = local_offences k l
+  item_offences a k (block_item.Statement s) = offences_of a k s
+
+  pub row_offences : {m : _} → Around → Known → statement.Row_of-BlockItem m → List Offence
+  row_offences a k statement.end_of-BlockItem = []
+  row_offences a k (statement.more_of-BlockItem x row) = item_offences a k x ++ row_offences a (known_after_item x k) row
+
+abbrev pub while_typed : PropId → TExpr → TStmt → SNode
+while_typed id c s = Loop (roll-TLoop (record { tests_first = true; heads = []; cond = Some c; step = None; body = s; unwind = id }))
+
+abbrev pub do_typed : PropId → TExpr → TStmt → SNode
+do_typed id c s = Loop (roll-TLoop (record { tests_first = false; heads = []; cond = Some c; step = None; body = s; unwind = id }))
+
+abbrev pub for_typed : PropId → List TStmt → Option TExpr → Option TStmt → TStmt → SNode
+for_typed id heads c step s = Loop (roll-TLoop (record { tests_first = true; heads = heads; cond = c; step = step; body = s; unwind = id }))
+
+abbrev pub stmt_at : Place → SNode → TStmt
+stmt_at p n = record { place = p; node = n }
+
+abbrev pub assert_typed : Place → Known → Expression → TStmt
+assert_typed p k e = stmt_at p (Assert (typed_of k.scopes (length (own kind.Assertion p k).sites) e) (id_of k))
+
+abbrev mutual
+  pub stmt_typed : Around → Known → Statement → TStmt
+  stmt_typed a k (statement.Compound' p _ items) = stmt_at p (Block (row_typed a (enter k) items))
+  stmt_typed a k (statement.Empty p) = stmt_at p (Block [])
+  stmt_typed a k (statement.Simple s) = simple_stmt k s
+  stmt_typed a k (statement.If' p c _ (statement.more_of-Statement s _)) = stmt_at p (If (typed_of k.scopes (length k.sites) c) (stmt_typed a (after_expression c k) s) None)
+  stmt_typed a k (statement.IfElse' p c _ (statement.more_of-Statement s _) _ (statement.more_of-Statement t _)) =
+      stmt_at p (If (typed_of k.scopes (length k.sites) c) (stmt_typed a (after_expression c k) s) (Some (stmt_typed a (known_after s (after_expression c k)) t)))
+  stmt_typed a k (statement.While' p c _ (statement.more_of-Statement s _)) =
+      let k' = own kind.Unwind p k in
+      stmt_at p (while_typed (id_of k) (typed_of k.scopes (length k'.sites) c) (stmt_typed (in_a_loop a) (after_expression c k') s))
+  stmt_typed a k (statement.Do' p _ (statement.more_of-Statement s _) c) =
+      let k' = own kind.Unwind p k in
+      let k'' = known_after s k' in
+      stmt_at p (do_typed (id_of k) (typed_of k''.scopes (length k''.sites) c) (stmt_typed (in_a_loop a) k' s))
+  stmt_typed a k (statement.For' p first c step _ (statement.more_of-Statement s _)) =
+      stmt_at p (for_typed (id_of k) (first_typed (own kind.Unwind p (enter k)) first) (condition_typed (at_condition p first k) c) (step_typed (at_step p first c k) step)
+      (stmt_typed (in_a_loop a) (at_body p first c step k) s))
+  stmt_typed a k (statement.Switch' p e _ groups) = stmt_at p (Block [])
+  stmt_typed a k (statement.Break p) = stmt_at p Break
+  stmt_typed a k (statement.Continue p) = stmt_at p Continue
+  stmt_typed a k (statement.Return p i) = stmt_at p (return_typed k a.result i)
+  stmt_typed a k (statement.Assert p e) = assert_typed p k e
+  stmt_typed a k (statement.CproverAssert p e) = assert_typed p k e
+  stmt_typed a k (statement.CproverAssume p e) = stmt_at p (Assume (typed_of k.scopes (length k.sites) e))
+
+  pub item_typed : Around → Known → BlockItem → List TStmt
+  item_typed a k (block_item.Local l) = local_typed k l
+  item_typed a k (block_item.Statement s) = stmt_typed a k s ∷ []
+
+  pub row_typed : {m : _} → Around → Known → statement.Row_of-BlockItem m → List TStmt
+  row_typed a k statement.end_of-BlockItem = []
+  row_typed a k (statement.more_of-BlockItem x row) = item_typed a k x ++ row_typed a (known_after_item x k) row
+
+-- the same of lists
+abbrev pub items_known : List BlockItem → Known → Known
+items_known [] k = k
+items_known (x ∷ xs) k = items_known xs (known_after_item x k)
+
+abbrev pub items_offences : Around → Known → List BlockItem → List Offence
+items_offences a k [] = []
+items_offences a k (x ∷ xs) = item_offences a k x ++ items_offences a (known_after_item x k) xs
+
+abbrev pub items_typed : Around → Known → List BlockItem → List TStmt
+items_typed a k [] = []
+items_typed a k (x ∷ xs) = item_typed a k x ++ items_typed a (known_after_item x k) xs

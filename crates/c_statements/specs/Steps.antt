@@ -1,0 +1,58 @@
+-- What a step of the typer does.
+use Rattle.std.specs.Prelude.{◌≡◌, List, [], ◌++◌, length, Option}
+use Rattle.src_text.specs.declared.refusal.Place.{Place}
+use Rattle.c_tree.specs.declared.declarations.Initializer.{Initializer}
+use Rattle.c_tree.specs.declared.expressions.AssignmentMark.{AssignmentMark}
+use Rattle.c_tree.specs.declared.expressions.Call.{Call}
+use Rattle.c_tree.specs.declared.expressions.StepMark.{StepMark}
+use Rattle.c_tree.specs.declared.expressions.Expression.{Expression}
+use Rattle.c_tree.specs.declared.statements.Simple.{Simple}
+use Rattle.joint_ir.specs.declared.ctype.IntType.{IntType}
+use Rattle.joint_ir.specs.declared.expr.BinaryOp.{BinaryOp}
+use Rattle.joint_ir.specs.declared.expr.TExpr.{TExpr}
+use Rattle.joint_ir.specs.declared.stmt.TUpdate.{TUpdate}
+use Rattle.joint_ir.specs.declared.stmt.SNode.{SNode}
+use Rattle.joint_ir.specs.declared.stmt.TInit.{TInit}
+use Rattle.c_tree.specs.declared.expressions.Path.{Path}
+use Rattle.c_words.specs.declared.notes.Notes.{Notes}
+use Rattle.c_words.specs.Notes.{noted}
+use Rattle.c_names.specs.Scope.{Scope}
+use Rattle.c_statements.specs.declared.calls.Signature.{Signature}
+use Rattle.c_expressions.specs.Expressions.{path_type, path_sites, offences_in, operator_sites}
+use Rattle.c_statements.specs.declared.simple.Aim.{Aim}
+use Rattle.c_statements.specs.Simple.{target_typed, target_offences, updated, update_typed, update_sites, stepped_typed, stepped_sites, simple_typed, simple_offences, simple_sites}
+use Rattle.c_statements.specs.Calls.{args_typed, args_offences, args_sites, call_args, call_offences, init_typed, init_offences, init_sites}
+
+pub record AreArgs (env : List Scope) (old new : Notes) (params : List IntType) (args : List Expression) (ts : List TExpr) : Type 0 where
+  pub typed : ts ≡ args_typed env (length old.sites) params 0 args
+  pub notes : new ≡ noted old (args_offences env args) (args_sites env args)
+
+pub record IsCall (fns : List Signature) (env : List Scope) (old new : Notes) (call : Call) (ts : List TExpr) : Type 0 where
+  pub typed : ts ≡ call_args fns env (length old.sites) call
+  pub notes : new ≡ noted old (call_offences fns env call) (args_sites env call.arguments)
+
+pub record IsInit (fns : List Signature) (env : List Scope) (old new : Notes) (t : IntType) (i : Initializer) (x : TInit) : Type 0 where
+  pub typed : x ≡ init_typed fns env (length old.sites) t i
+  pub notes : new ≡ noted old (init_offences fns env i) (init_sites env i)
+
+pub record IsAim (env : List Scope) (old new : Notes) (x : Path) (a : Aim) : Type 0 where
+  pub target : a.target ≡ target_typed env (length old.sites) x
+  pub ty : a.ty ≡ path_type env x
+  pub notes : new ≡ noted old (target_offences env x) (path_sites env x)
+
+pub record IsSimple (fns : List Signature) (env : List Scope) (old new : Notes) (s : Simple) (n : SNode) : Type 0 where
+  pub typed : n ≡ simple_typed fns env (length old.sites) s
+  pub notes : new ≡ noted old (simple_offences fns env s) (simple_sites env s)
+
+-- the operator of an update, and its properties
+pub record IsUpdated (old new : Notes) (op : BinaryOp) (t : IntType) (right : Option TExpr) (p : Place) (u : TUpdate) : Type 0 where
+  pub typed : u ≡ updated (length old.sites) op t right p
+  pub notes : new ≡ noted old [] (operator_sites op t.signed p)
+
+pub record IsUpdate (env : List Scope) (old new : Notes) (x : Path) (mark : AssignmentMark) (e : Expression) (n : SNode) : Type 0 where
+  pub typed : n ≡ update_typed env (length old.sites) x mark e
+  pub notes : new ≡ noted old (target_offences env x ++ offences_in env e) (update_sites env x mark e)
+
+pub record IsStep (env : List Scope) (old new : Notes) (x : Path) (mark : StepMark) (n : SNode) : Type 0 where
+  pub typed : n ≡ stepped_typed env (length old.sites) x mark
+  pub notes : new ≡ noted old (target_offences env x) (stepped_sites env x mark)

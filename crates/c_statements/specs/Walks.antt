@@ -1,0 +1,39 @@
+-- Statements and lists of them, typed.
+use Rattle.std.specs.Prelude.{◌≡◌, ℕ, Bool, List, ◌++◌, drop}
+use Rattle.c_tree.specs.declared.declarations.Declarator.{Declarator}
+use Rattle.c_tree.specs.declared.statements.BlockItem.{BlockItem}
+use Rattle.c_tree.specs.declared.statements.Statement.{Statement}
+use Rattle.joint_ir.specs.declared.ctype.IntType.{IntType}
+use Rattle.joint_ir.specs.declared.stmt.TStmt.{TStmt}
+use Rattle.offence_order.specs.Order.{first_of}
+use Rattle.c_statements.specs.declared.walk.Around.{Around}
+use Rattle.c_statements.specs.declared.walk.Typer.{Typer}
+use Rattle.c_statements.specs.Statements.{declarators_typed, declarators_offences, declarators_known, stmt_typed, offences_of, known_after, item_typed, item_offences, known_after_item, items_typed, items_offences, items_known}
+use Rattle.c_statements.specs.Moves.{known_of, Goes}
+
+pub record AreDeclared (t : IntType) (constant : Bool) (old new : Typer) (ds : List Declarator) (ts : List TStmt) : Type 0 where
+  pub typed : ts ≡ declarators_typed t constant (known_of old) ds
+  pub goes : Goes old new (declarators_offences t constant (known_of old) ds) (declarators_known t constant ds (known_of old))
+
+pub record IsStmt (a : Around) (old new : Typer) (s : Statement) (t : TStmt) : Type 0 where
+  pub typed : t ≡ stmt_typed a (known_of old) s
+  pub goes : Goes old new (offences_of a (known_of old) s) (known_after s (known_of old))
+
+pub record IsItem (a : Around) (old new : Typer) (x : BlockItem) (ts : List TStmt) : Type 0 where
+  pub typed : ts ≡ item_typed a (known_of old) x
+  pub goes : Goes old new (item_offences a (known_of old) x) (known_after_item x (known_of old))
+
+pub record AreItems (a : Around) (old new : Typer) (xs : List BlockItem) (ts : List TStmt) : Type 0 where
+  pub typed : ts ≡ items_typed a (known_of old) xs
+  pub goes : Goes old new (items_offences a (known_of old) xs) (items_known xs (known_of old))
+
+-- after some of a list: what is left to do, from what is done
+pub record DeclaredSoFar (t : IntType) (constant : Bool) (old now : Typer) (ds : List Declarator) (i : ℕ) (done : List TStmt) : Type 0 where
+  pub typed_so : declarators_typed t constant (known_of old) ds ≡ done ++ declarators_typed t constant (known_of now) (drop i ds)
+  pub first_so : first_of old.notes.first (declarators_offences t constant (known_of old) ds) ≡ first_of now.notes.first (declarators_offences t constant (known_of now) (drop i ds))
+  pub known_so : declarators_known t constant ds (known_of old) ≡ declarators_known t constant (drop i ds) (known_of now)
+
+pub record ItemsSoFar (a : Around) (old now : Typer) (xs : List BlockItem) (i : ℕ) (done : List TStmt) : Type 0 where
+  pub typed_so : items_typed a (known_of old) xs ≡ done ++ items_typed a (known_of now) (drop i xs)
+  pub first_so : first_of old.notes.first (items_offences a (known_of old) xs) ≡ first_of now.notes.first (items_offences a (known_of now) (drop i xs))
+  pub known_so : items_known xs (known_of old) ≡ items_known (drop i xs) (known_of now)

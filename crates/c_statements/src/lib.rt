@@ -1,0 +1,8 @@
+//! Statements of C, typed: what they declare, what is wrong in them, the properties in them, and their typed form.
+//!
+//! Knows nothing of how functions and the objects of file scope come to be declared.
+#![tactic(auto)]
+
+pub mod calls;
+pub mod simple;
+pub mod walk;
