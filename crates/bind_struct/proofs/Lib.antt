@@ -1,0 +1,3 @@
+pub mod Naming
+pub mod Storing
+pub mod Linking
