@@ -81,35 +81,36 @@ is_number e = false
 abbrev pub IsIndex : (ℕ → Shape) → FlatExpr → Type 0
 IsIndex shapes i = own_fixed (meant shapes i) ≡ is_number i
 
-module _ (count : ℕ) (shapes : ℕ → Shape) where
+-- what is asked of a signal's number, and whether selects by an index and copies are taken, are for the caller to say
+module _ (known : ℕ → Type 0) (by_index copied : Type 0) (shapes : ℕ → Shape) where
   abbrev mutual
     pub Fits : FlatExpr → Type 0
     Fits (flat.Literal n) = IsWord n.word
-    Fits (flat.Signal place g) = IsSignal count shapes g × ((shapes g).words ≡ 0)
-    Fits (flat.Select place g s) = IsSignal count shapes g × FitsSelect g s
+    Fits (flat.Signal place g) = known g × ((shapes g).words ≡ 0)
+    Fits (flat.Select place g s) = known g × FitsSelect g s
     Fits (flat.SelectNumber place c low s) = IsWord c × FitsNumber c.width low s
     Fits (flat.Unary' operator _ (flat.more_of-FlatExpr a _)) = Fits a
     Fits (flat.Binary' _ (flat.more_of-FlatExpr a _) operator _ (flat.more_of-FlatExpr b _)) = Fits a × Fits b
     Fits (flat.Conditional' _ (flat.more_of-FlatExpr c _) _ (flat.more_of-FlatExpr a _) _ (flat.more_of-FlatExpr b _)) = Fits c × Fits a × Fits b
     Fits (flat.Parentheses' place _ (flat.more_of-FlatExpr a _)) = Fits a
     Fits (flat.Concatenation' place _ parts) = FitsParts parts × IsWidth (parts_meant shapes parts).length
-    Fits (flat.Replication' place c _ parts) = FitsParts parts × IsWidth (parts_meant shapes parts).length × IsWidth (c * (parts_meant shapes parts).length)
+    Fits (flat.Replication' place c _ parts) = FitsParts parts × IsWidth (parts_meant shapes parts).length × IsWidth (c * (parts_meant shapes parts).length) × copied
     Fits (flat.Signed' place _ (flat.more_of-FlatExpr a _)) = Fits a
     Fits (flat.Unsigned' place _ (flat.more_of-FlatExpr a _)) = Fits a
 
     -- a select of a signal
     pub FitsSelect : ℕ → FlatSelection → Type 0
-    FitsSelect g (selection.Bit' _ (flat.more_of-FlatExpr i _)) = Fits i × IsIndex shapes i
+    FitsSelect g (selection.Bit' _ (flat.more_of-FlatExpr i _)) = Fits i × IsIndex shapes i × by_index
     FitsSelect g (selection.Part high low) = ((shapes g).words ≡ 0) × ((shapes g).low ≤ low) × (low ≤ high) × (high < (shapes g).low + (shapes g).bits)
-    FitsSelect g (selection.Up' _ (flat.more_of-FlatExpr i _) n) = ((shapes g).words ≡ 0) × IsSpan n × Fits i × IsIndex shapes i
-    FitsSelect g (selection.Down' _ (flat.more_of-FlatExpr i _) n) = ((shapes g).words ≡ 0) × IsSpan n × Fits i × IsIndex shapes i
+    FitsSelect g (selection.Up' _ (flat.more_of-FlatExpr i _) n) = ((shapes g).words ≡ 0) × IsSpan n × Fits i × IsIndex shapes i × by_index
+    FitsSelect g (selection.Down' _ (flat.more_of-FlatExpr i _) n) = ((shapes g).words ≡ 0) × IsSpan n × Fits i × IsIndex shapes i × by_index
 
     -- a select of a number of w bits; with an index, of at most 128 bits together
     pub FitsNumber : ℕ → ℕ → FlatSelection → Type 0
-    FitsNumber w low (selection.Bit' _ (flat.more_of-FlatExpr i _)) = (w + 1 ≤ 128) × Fits i × IsIndex shapes i
+    FitsNumber w low (selection.Bit' _ (flat.more_of-FlatExpr i _)) = (w + 1 ≤ 128) × Fits i × IsIndex shapes i × by_index
     FitsNumber w low (selection.Part high from) = (low ≤ from) × (from ≤ high) × (high < low + w)
-    FitsNumber w low (selection.Up' _ (flat.more_of-FlatExpr i _) n) = (w + n ≤ 128) × IsSpan n × Fits i × IsIndex shapes i
-    FitsNumber w low (selection.Down' _ (flat.more_of-FlatExpr i _) n) = (w + n ≤ 128) × IsSpan n × Fits i × IsIndex shapes i
+    FitsNumber w low (selection.Up' _ (flat.more_of-FlatExpr i _) n) = (w + n ≤ 128) × IsSpan n × Fits i × IsIndex shapes i × by_index
+    FitsNumber w low (selection.Down' _ (flat.more_of-FlatExpr i _) n) = (w + n ≤ 128) × IsSpan n × Fits i × IsIndex shapes i × by_index
 
     pub FitsParts : {m : _} → flat.Row_of-FlatExpr m → Type 0
     FitsParts flat.end_of-FlatExpr = Unit {0}
@@ -119,3 +120,10 @@ module _ (count : ℕ) (shapes : ℕ → Shape) where
   abbrev pub FitsList : List FlatExpr → Type 0
   FitsList [] = Unit {0}
   FitsList (e ∷ rest) = Fits e × FitsList rest
+
+-- all forms over signals that are there
+abbrev pub IsTaken : ℕ → (ℕ → Shape) → FlatExpr → Type 0
+IsTaken count shapes e = Fits (IsSignal count shapes) (Unit {0}) (Unit {0}) shapes e
+
+abbrev pub AreTaken : ℕ → (ℕ → Shape) → List FlatExpr → Type 0
+AreTaken count shapes parts = FitsList (IsSignal count shapes) (Unit {0}) (Unit {0}) shapes parts

@@ -4,7 +4,7 @@ ghost use Rattle.std.specs.Prelude.{◌≡◌, ◌+◌, ◌-◌, ◌<◌, ◌≤
 ghost use Rattle.bits_core.specs.Word.{IsWidth};
 ghost use Rattle.flat_tree.specs.Operators.{form_of, length_by, signed_by, is_reduction as reduces};
 ghost use Rattle.flat_tree.specs.Values.{meant};
-ghost use Rattle.flat_values.specs.Fits.{IsOwn, IsOrdered, shape_of, shapes_of, Fits, FitsList, list_meant, selection_length, selection_signed, number_length as number_length_of};
+ghost use Rattle.flat_values.specs.Fits.{IsOwn, IsOrdered, shape_of, shapes_of, IsTaken, AreTaken, list_meant, selection_length, selection_signed, number_length as number_length_of};
 
 use flat_tree::{FlatExpr, FlatSelection, FlatSignal};
 use v_tree::{BinaryOp, UnaryOp};
@@ -19,7 +19,7 @@ pub struct LengthSign {
 /// The length and the sign that an expression has by itself.
 #[cycle(own)]
 pub fn own(signals: &[FlatSignal], e: &FlatExpr) -> LengthSign
-    requires { Fits (count signals.now) (shapes_of signals.now) e.now }
+    requires { IsTaken (count signals.now) (shapes_of signals.now) e.now }
     ensures { IsOwn (meant (shapes_of signals.now) e.now) result.length result.signed }
 {
     match e {
@@ -55,7 +55,7 @@ pub fn own(signals: &[FlatSignal], e: &FlatExpr) -> LengthSign
 /// The length of parts side by side.
 #[cycle(own)]
 fn joined_length(signals: &[FlatSignal], parts: &[FlatExpr]) -> u8
-    requires fits { FitsList (count signals.now) (shapes_of signals.now) parts.now }
+    requires fits { AreTaken (count signals.now) (shapes_of signals.now) parts.now }
     requires within { (list_meant (shapes_of signals.now) parts.now).length ≤ 128 }
     ensures { result ≡ (list_meant (shapes_of signals.now) parts.now).length }
 {
