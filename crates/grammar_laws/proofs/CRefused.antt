@@ -1,5 +1,5 @@
 -- The small C texts stop there, by computing.
-use Rattle.std.proofs.Common.{◌≡◌, ℕ, true, List, [], ◌∷◌, Option, Some, length, map, refl, sym, ap, ◌∙◌}
+use Rattle.std.proofs.Common.{◌≡◌, ℕ, List, [], ◌∷◌, Option, Some, map, refl, sym, ◌∙◌}
 use denote.Hole.Carrier.{hidden}
 use Rattle.c_grammar.specs.Table.{TABLE}
 use Rattle.c_grammar.proofs.Fit.{c_is_ll}

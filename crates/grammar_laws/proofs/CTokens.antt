@@ -1,5 +1,5 @@
 -- The tokens of a C text, by computing in order.
-use Rattle.std.proofs.Common.{◌≡◌, ℕ, true, List, [], ◌∷◌, Option, None, length, refl, ap, ◌∙◌}
+use Rattle.std.proofs.Common.{◌≡◌, ℕ, true, List, [], ◌∷◌, None, length, refl, ap, ◌∙◌}
 use Rattle.text_scan.specs.declared.scanner.Token.{Token}
 use Rattle.c_tokens.specs.Directives.{c_tokens, lines_give, lines_of}
 use Rattle.c_tokens.specs.Rules.{kind_of, is_blank_line}

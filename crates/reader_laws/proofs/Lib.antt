@@ -1,8 +1,1 @@
 mod Answers
-mod InOrder
-mod Productions
-mod Spellings
-mod VerilogReading
-mod VerilogTrees
-mod CReading
-mod CTrees

@@ -1,0 +1,6 @@
+mod Productions
+mod Spellings
+mod VerilogReading
+mod VerilogTrees
+mod CReading
+mod CTrees
