@@ -1,6 +1,14 @@
 #!/usr/bin/env python3
-"""Writes clauses in the DIMACS form: multiplier N (a * b == b * a at N bits, negated), pigeons N (N + 1
-pigeons, N holes), random N SEED (N variables, 4.26 N clauses of three literals)."""
+"""Writes clauses in the DIMACS form, on the standard output.
+
+multiplier N    a * b == b * a, the low N bits, negated
+comm N          a * b == b * a, all 2 N bits, negated
+assoc N         (a + b) + c == a + (b + c) at N bits, negated
+pipe N          a byte to which 1 to N are added in turn, made twice, negated
+gray N          a word of N bits, to Gray's code and back, is itself, negated
+pigeons N       N + 1 pigeons, N holes
+random N SEED   N variables, 4.26 N clauses of three literals
+long N          N variables in one clause"""
 import random
 import sys
 
@@ -64,6 +72,99 @@ def multiplier(n):
     return c
 
 
+def added(c, a, b):
+    """The sum without its last carry, by full adders."""
+    out, carry = [], None
+    for x, y in zip(a, b):
+        half, made = c.differ(x, y), c.both(x, y)
+        if carry is None:
+            out.append(half)
+            carry = made
+        else:
+            out.append(c.differ(half, carry))
+            carry = c.either(made, c.both(half, carry))
+    return out
+
+
+def whole_product(c, a, b):
+    """All bits of a product, by adding shifted rows."""
+    n = len(a)
+    total = [c.both(a[0], x) for x in b]
+    for i in range(1, n):
+        row = [c.both(a[i], x) for x in b]
+        carry = None
+        for j, bit in enumerate(row):
+            at = i + j
+            if at == len(total):
+                total.append(None)
+            if total[at] is None:
+                total[at], carry = c.differ(bit, carry), c.both(bit, carry)
+                continue
+            half, made = c.differ(total[at], bit), c.both(total[at], bit)
+            if carry is None:
+                total[at], carry = half, made
+            else:
+                more = c.both(half, carry)
+                total[at] = c.differ(half, carry)
+                carry = c.either(made, more)
+        total.append(carry)
+    return total
+
+
+def unequal(c, left, right):
+    c.add(*[c.differ(x, y) for x, y in zip(left, right)])
+    return c
+
+
+def word(c, n):
+    return [c.fresh() for _ in range(n)]
+
+
+def comm(n):
+    c = Clauses()
+    a, b = word(c, n), word(c, n)
+    return unequal(c, whole_product(c, a, b), whole_product(c, b, a))
+
+
+def assoc(n):
+    c = Clauses()
+    x, y, z = word(c, n), word(c, n), word(c, n)
+    return unequal(c, added(c, added(c, x, y), z), added(c, x, added(c, y, z)))
+
+
+def constant(c, value, n):
+    bits = word(c, n)
+    for i, bit in enumerate(bits):
+        c.add(bit if value >> i & 1 else -bit)
+    return bits
+
+
+def pipe(n):
+    c = Clauses()
+    left = right = word(c, 8)
+    for i in range(1, n + 1):
+        left = added(c, left, constant(c, i, 8))
+        right = added(c, constant(c, i, 8), right)
+    return unequal(c, left, right)
+
+
+def gray(n):
+    c = Clauses()
+    bits = word(c, n)
+    code = [c.differ(x, y) for x, y in zip(bits, bits[1:])] + bits[-1:]
+    shift = 1
+    while shift < n:
+        code = [c.differ(x, y) for x, y in zip(code, code[shift:])] + code[n - shift:]
+        shift *= 2
+    return unequal(c, bits, code)
+
+
+def long(n):
+    c = Clauses()
+    c.add(*word(c, n))
+    return c
+
+
 def pigeons(n):
     c = Clauses()
     at = [[c.fresh() for _ in range(n)] for _ in range(n + 1)]
@@ -85,14 +186,20 @@ def random_clauses(n, seed):
     return c
 
 
+MAKERS = {
+    "multiplier": multiplier,
+    "comm": comm,
+    "assoc": assoc,
+    "pipe": pipe,
+    "gray": gray,
+    "pigeons": pigeons,
+    "random": random_clauses,
+    "long": long,
+}
+
+
 def main():
-    kind, n = sys.argv[1], int(sys.argv[2])
-    if kind == "multiplier":
-        c = multiplier(n)
-    elif kind == "pigeons":
-        c = pigeons(n)
-    else:
-        c = random_clauses(n, int(sys.argv[3]))
+    c = MAKERS[sys.argv[1]](*[int(word) for word in sys.argv[2:]])
     print("p cnf", c.vars, len(c.rows))
     for row in c.rows:
         print(*row, 0)

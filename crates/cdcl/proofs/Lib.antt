@@ -21,3 +21,4 @@ pub mod Joins
 pub mod Levels
 pub mod Answered
 pub mod Watching
+pub mod Marking

@@ -8,3 +8,4 @@ pub mod Turn
 pub mod Table
 pub mod Watched
 pub mod Watching
+pub mod Marks

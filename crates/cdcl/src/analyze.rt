@@ -1,17 +1,19 @@
 //! What is derived from a conflict: its clause resolved back along the trail.
 
-ghost use Rattle.std.specs.Prelude.{◌≡◌, ◌<◌, ◌≤◌, ◌+◌, ◌++◌, ◌∷◌, [], ℕ, true, false, length, take, slice_index_or, Option, Some, IfOk, OnOk, IsSome};
+ghost use Rattle.std.specs.Prelude.{◌≡◌, ◌<◌, ◌≤◌, ◌+◌, ◌++◌, ◌∷◌, [], ℕ, true, false, length, take, IfOk, OnOk};
+ghost use Rattle.std.specs.Bool.{MatchBool};
 ghost use Rattle.std.specs.Option.{ForSome, IsSomeAnd};
-ghost use Rattle.clause_arena.specs.Clause.{has, is_same, is_below, clause_at, without, IsEachOnce};
-ghost use Rattle.clause_arena.specs.declared.Lit.{Lit};
+ghost use Rattle.clause_arena.specs.Clause.{has, opposite, is_below, clause_at, without, IsEachOnce};
+ghost use Rattle.clause_arena.specs.declared.Lit.{Lit as TrueLit};
 ghost use Rattle.clause_arena.specs.declared.ClauseId.{ClauseId};
 ghost use Rattle.res_log.specs.Log.{chain};
 ghost use Rattle.res_log.specs.Partial.{IsAsserting, is_false, is_open};
 ghost use Rattle.cdcl.specs.Trail.{AllClauses, AreForcedFrom};
 ghost use Rattle.cdcl.specs.Held.{IsKept, vars_of, reasons_of, IsChainOf};
 ghost use Rattle.cdcl.specs.Work.{IsConflict};
+ghost use Rattle.cdcl.specs.Marks.{is_seen, IsMarked, AreEarly, IsUnmarked, HasMarked};
 
-use crate::trail::{Trail, has_lit, negated};
+use crate::trail::{Trail, negated};
 use clause_arena::{ClauseArena, ClauseId, Lit};
 use res_log::ChainStep;
 use smallvec::SmallVec;
@@ -20,35 +22,54 @@ use std::alloc::{AllocError, Global};
 /// A clause that is being derived.
 pub type Derived = SmallVec<Lit, 16>;
 
-/// The literals of the clause that are not there yet are put at the end, but for those of a variable.
-pub fn join_without(out: &mut Derived, clause: &[Lit], var: u32) -> Result<(), AllocError>
-    ensures { OnOk result ((m : Lit) → has out.new.items m ≡ has (out.old.items ++ without var clause.now) m) }
+/// Marks the variables of a clause, and collects those of its literals that are newly marked and
+/// became false before a place.
+pub fn mark(
+    trail: &Trail,
+    start: usize,
+    clause: &[Lit],
+    seen: &mut [bool],
+    early: &mut Derived,
+) -> Result<(), AllocError>
+    requires sized { length seen.old ≡ vars_of trail.now }
+    requires place { start ≤ length trail.now.lits.items }
+    requires below { is_below (vars_of trail.now) clause.now ≡ true }
+    requires falsified { (m : TrueLit) → has clause.now m ≡ true → is_seen seen.old m.var ≡ false → has trail.now.lits.items (opposite m) ≡ true }
+    requires early { AreEarly trail.now.lits.items start seen.old early.old.items }
+    requires once { IsEachOnce early.old.items }
+    ensures sized { OnOk result (length seen.new ≡ vars_of trail.now) }
+    ensures marked { OnOk result (IsMarked seen.old seen.new clause.now) }
+    ensures early { OnOk result (AreEarly trail.now.lits.items start seen.new early.new.items) }
+    ensures once { OnOk result (IsEachOnce early.new.items) }
 {
     for l in clause {
-        if l.var == var {
+        let at = l.var as usize;
+        if seen[at] {
             continue;
         }
-        if has_lit(out.as_slice(), *l) {
+        seen[at] = true;
+        if start <= trail.places[at] {
             continue;
         }
-        out.push(*l)?;
+        early.push(*l)?;
     }
     Ok(())
 }
 
-/// The same set as the resolvent of two clauses on a variable.
-pub fn resolve_on(
-    alloc: Global,
-    left: &[Lit],
-    right: &[Lit],
-    var: u32,
-) -> Result<Derived, AllocError>
-    ensures { IfOk result (λ out. (m : Lit) → has out.items m ≡ has (without var left.now ++ without var right.now) m) }
+/// Whether no literal of the trail from `start` up to a place has a marked variable.
+pub fn is_unmarked(trail: &Trail, seen: &[bool], start: usize, end: usize) -> bool
+    requires sized { length seen.now ≡ vars_of trail.now }
+    requires place { end ≤ length trail.now.lits.items }
+    ensures { MatchBool result (IsUnmarked trail.now.lits.items seen.now start end) (HasMarked trail.now.lits.items seen.now start end) }
 {
-    let mut out: Derived = SmallVec::new(alloc);
-    join_without(&mut out, left, var)?;
-    join_without(&mut out, right, var)?;
-    Ok(out)
+    let mut i = end;
+    'back: while start < i {
+        i -= 1;
+        if seen[trail.lits[i].var as usize] {
+            return false;
+        }
+    }
+    true
 }
 
 /// The conflict clause resolved back to one literal of the last level, which begins at `start`.
@@ -60,6 +81,7 @@ pub fn resolve_back(
     conflict: ClauseId,
     steps: &mut Vec<ChainStep>,
 ) -> Result<Derived, AllocError>
+    requires below { AllClauses (is_below (vars_of trail.now)) arena.now.clauses }
     requires kept { IsKept arena.now.clauses trail.now }
     requires place { start < length trail.now.lits.items }
     requires forced { AreForcedFrom (reasons_of trail.now) (start + 1) }
@@ -69,28 +91,31 @@ pub fn resolve_back(
     ensures chained { IfOk result (λ learned. IsChainOf arena.now.clauses conflict steps.new.items learned.items) }
     ensures falsified { IfOk result (λ learned. is_false trail.now.lits.items learned.items ≡ true) }
     ensures asserting { IfOk result (λ learned. IsAsserting (take start trail.now.lits.items) learned.items) }
+    ensures once { IfOk result (λ learned. IsEachOnce learned.items) }
 {
-    let mut current: Derived = SmallVec::from_slice(alloc, arena.lits(conflict))?;
+    let mut seen = vec![in alloc; false; trail.values.len()]?;
+    let mut early: Derived = SmallVec::new(alloc);
+    mark(trail, start, arena.lits(conflict), &mut seen, &mut early)?;
     let mut i = trail.lits.len();
     'back: while start < i {
         i -= 1;
         let newest = trail.lits[i];
-        if !has_lit(current.as_slice(), negated(newest)) {
+        if !seen[newest.var as usize] {
             continue;
         }
-        if trail.are_others_before(start, current.as_slice(), newest.var) {
-            return Ok(current);
+        if is_unmarked(trail, &seen, start, i) {
+            early.push(negated(newest))?;
+            return Ok(early);
         }
         let reason = match trail.reason_at(i) {
             Some(reason) => reason,
             None => unreachable!(),
         };
-        let next = resolve_on(alloc, current.as_slice(), arena.lits(reason), newest.var)?;
         steps.push(ChainStep {
             clause: reason,
             pivot: newest.var,
         })?;
-        current = next;
+        mark(trail, start, arena.lits(reason), &mut seen, &mut early)?;
     }
     unreachable!()
 }
@@ -103,6 +128,7 @@ pub fn resolve_to_empty(
     conflict: ClauseId,
     steps: &mut Vec<ChainStep>,
 ) -> Result<(), AllocError>
+    requires below { AllClauses (is_below (vars_of trail.now)) arena.now.clauses }
     requires kept { IsKept arena.now.clauses trail.now }
     requires forced { AreForcedFrom (reasons_of trail.now) 0 }
     requires conflict { IsConflict arena.now.clauses trail.now.lits.items conflict }
@@ -110,39 +136,25 @@ pub fn resolve_to_empty(
     requires fresh { steps.old.items ≡ [] }
     ensures { OnOk result (IsChainOf arena.now.clauses conflict steps.new.items []) }
 {
-    let mut current: Derived = SmallVec::from_slice(alloc, arena.lits(conflict))?;
+    let mut seen = vec![in alloc; false; trail.values.len()]?;
+    let mut early: Derived = SmallVec::new(alloc);
+    mark(trail, 0, arena.lits(conflict), &mut seen, &mut early)?;
     let mut i = trail.lits.len();
     'back: while 0 < i {
         i -= 1;
         let newest = trail.lits[i];
-        if !has_lit(current.as_slice(), negated(newest)) {
+        if !seen[newest.var as usize] {
             continue;
         }
         let reason = match trail.reason_at(i) {
             Some(reason) => reason,
             None => unreachable!(),
         };
-        let next = resolve_on(alloc, current.as_slice(), arena.lits(reason), newest.var)?;
         steps.push(ChainStep {
             clause: reason,
             pivot: newest.var,
         })?;
-        current = next;
+        mark(trail, 0, arena.lits(reason), &mut seen, &mut early)?;
     }
     Ok(())
-}
-
-/// The same set, with no literal twice.
-pub fn each_once(alloc: Global, lits: &[Lit]) -> Result<Derived, AllocError>
-    ensures same { IfOk result (λ out. (m : Lit) → has out.items m ≡ has lits.now m) }
-    ensures once { IfOk result (λ out. IsEachOnce out.items) }
-{
-    let mut out: Derived = SmallVec::new(alloc);
-    for l in lits {
-        if has_lit(out.as_slice(), *l) {
-            continue;
-        }
-        out.push(*l)?;
-    }
-    Ok(out)
 }

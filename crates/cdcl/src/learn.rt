@@ -12,7 +12,7 @@ ghost use Rattle.cdcl.specs.Grown.{IsLearned, IsRefuted};
 ghost use Rattle.cdcl.specs.Answer.{Keeps};
 ghost use Rattle.cdcl.specs.Watching.{IsWatching, HasNewest, IsBefore};
 
-use crate::analyze::{each_once, resolve_back, resolve_to_empty};
+use crate::analyze::{resolve_back, resolve_to_empty};
 use crate::trail::{Trail, negated};
 use crate::watch::{Pair, Watches};
 use clause_arena::{ClauseArena, ClauseId, Lit};
@@ -101,8 +101,9 @@ pub fn asserted(trail: &Trail, clause: &[Lit]) -> Lit
     unreachable!()
 }
 
-/// Learns a clause from a conflict above level 0, goes back, and makes the clause's free literal true.
-pub fn learn(
+/// Learns a clause from a conflict above level 0, in room that was made for it, goes back, and makes
+/// the clause's free literal true.
+pub fn learn_reserved(
     alloc: Global,
     arena: &mut ClauseArena,
     log: &mut Log,
@@ -112,6 +113,8 @@ pub fn learn(
     start: usize,
 ) -> Result<ClauseId, AllocError>
     requires room { length arena.old.clauses < 4294967295 }
+    requires spare_clause { 0 < arena.old.spare_clauses }
+    requires spare_lits { vars_of trail.old ≤ arena.old.spare_lits }
     requires below { AllClauses (is_below (vars_of trail.old)) arena.old.clauses }
     requires kept { IsKept arena.old.clauses trail.old }
     requires watching { IsWatching arena.old.clauses trail.old watches.old }
@@ -126,11 +129,10 @@ pub fn learn(
     ensures bounded { length arena.new.clauses ≤ length arena.old.clauses + 1 }
 {
     let mut steps: Vec<ChainStep> = Vec::new(alloc);
-    let resolved = resolve_back(alloc, arena, trail, start, conflict, &mut steps)?;
-    let learned = each_once(alloc, resolved.as_slice())?;
+    let learned = resolve_back(alloc, arena, trail, start, conflict, &mut steps)?;
     let level = level_end(trail, learned.as_slice(), start);
     trail.back_to(level.end);
-    let id = arena.push(learned.as_slice())?;
+    let id = arena.push_reserved(learned.as_slice());
     log.append(id, conflict, &steps)?;
     let first = asserted(trail, learned.as_slice());
     let second = level.newest.unwrap_or(first);
@@ -138,6 +140,35 @@ pub fn learn(
     watches.set_head(level.end);
     watches.watch(id, Pair { first, second })?;
     Ok(id)
+}
+
+/// Makes room and learns a clause, so that no clause that was derived is refused.
+pub fn learn(
+    alloc: Global,
+    arena: &mut ClauseArena,
+    log: &mut Log,
+    trail: &mut Trail,
+    watches: &mut Watches,
+    conflict: ClauseId,
+    start: usize,
+) -> Result<ClauseId, AllocError>
+    requires room { length arena.old.clauses < 4294967295 }
+    requires vars { vars_of trail.old < 4294967296 }
+    requires below { AllClauses (is_below (vars_of trail.old)) arena.old.clauses }
+    requires kept { IsKept arena.old.clauses trail.old }
+    requires watching { IsWatching arena.old.clauses trail.old watches.old }
+    requires last { IsLastDecision (reasons_of trail.old) start }
+    requires conflict { IsConflict arena.old.clauses trail.old.lits.items conflict }
+    ensures learned { OnOk result (IsLearned (vars_of trail.old) arena.old.clauses log.old arena.new.clauses log.new) }
+    ensures next { IfOk result (λ id. id.0 ≡ length arena.old.clauses) }
+    ensures kept { OnOk result (IsKept arena.new.clauses trail.new) }
+    ensures watching { OnOk result (IsWatching arena.new.clauses trail.new watches.new) }
+    ensures vars { OnOk result (vars_of trail.new ≡ vars_of trail.old) }
+    ensures clauses { Keeps arena.old.clauses arena.new.clauses }
+    ensures bounded { length arena.new.clauses ≤ length arena.old.clauses + 1 }
+{
+    arena.reserve(1, trail.vars())?;
+    learn_reserved(alloc, arena, log, trail, watches, conflict, start)
 }
 
 /// Logs the empty clause from a conflict at level 0.
@@ -149,6 +180,7 @@ pub fn refute(
     conflict: ClauseId,
 ) -> Result<(), AllocError>
     requires room { length arena.old.clauses < 4294967295 }
+    requires below { AllClauses (is_below (vars_of trail.now)) arena.old.clauses }
     requires open { AllClauses is_open arena.old.clauses }
     requires kept { IsKept arena.old.clauses trail.now }
     requires forced { AreForcedFrom (reasons_of trail.now) 0 }

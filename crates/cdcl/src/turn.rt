@@ -95,6 +95,7 @@ pub fn end_conflict(
     conflict: ClauseId,
 ) -> Result<Outcome, AllocError>
     requires room { length arena.old.clauses < 4294967295 }
+    requires vars { vars_of trail.old < 4294967296 }
     requires below { AllClauses (is_below (vars_of trail.old)) arena.old.clauses }
     requires open { AllClauses is_open arena.old.clauses }
     requires kept { IsKept arena.old.clauses trail.old }
