@@ -1,9 +1,10 @@
 -- Lists with no literal twice.
-use Rattle.std.proofs.Common.{◌≡◌, ℕ, ◌≤◌, true, false, inl, inr, List, [], ◌∷◌, length, get_or, refl, sym, ap, ◌∙◌, subst, arith}
+use Rattle.std.proofs.Common.{◌≡◌, ℕ, ◌+◌, ◌<◌, ◌≤◌, Bool, true, false, ◌||◌, inl, inr, List, [], ◌∷◌, ◌++◌, length, take, get_or, refl, sym, ap, ◌∙◌, subst, arith}
 use Rattle.std.specs.List.{IsDistinct}
 use Rattle.std.specs.Cmp.{IsEquivalence}
 use Rattle.std.proofs.lemmas.Bool.{both_ways}
-use Rattle.std.proofs.lemmas.Map.Keys.{apart_from_distinct}
+use Rattle.std.proofs.lemmas.List.Folds.{list_any-append, list_any_more}
+use Rattle.std.proofs.lemmas.Map.Keys.{apart_from_distinct, IsDistinct-push}
 use Rattle.clause_arena.specs.declared.Lit.{Lit}
 use Rattle.clause_arena.specs.Clause.{Clause, opposite, has, lit_eq, is_below, IsEachOnce}
 use Rattle.clause_arena.proofs.Sets.{lit_eq-true, lit_eq-refl, bool_iff, list_all-at}
@@ -43,3 +44,18 @@ few-lits vars p c h b f o =
       | inl u ↦ both_ways _ n (ap (lit_eq x) (sym u) ∙ lit_eq-refl x)
       | inr u ↦ apart p h (opposite y) hy (ap (has p) (sym (ap opposite u)) ∙ hx)
     ]) (all-below vars p c b f)
+
+or_false : (b : Bool) → (b || false) ≡ b
+or_false true = refl
+or_false false = refl
+
+pub once-push : (lits out next d : Clause) (i : ℕ) (z : Lit) → i < length lits → d ≡ out → false ≡ has d (get_or lits i z) → next ≡ out ++ get_or lits i z ∷ [] → ((m : Lit) → has out m ≡ has (take i lits) m) → IsEachOnce out → ((m : Lit) → has next m ≡ has (take (i + 1) lits) m) × IsEachOnce next
+once-push lits out next d i z l e f g s o = (
+  λ m.
+      ap (λ (c : Clause). has c m) g
+      ∙ list_any-append (lit_eq m) out (get_or lits i z ∷ [])
+      ∙ ap (λ (b : Bool). b || (lit_eq m (get_or lits i z) || false)) (s m)
+      ∙ ap (λ (b : Bool). has (take i lits) m || b) (or_false (lit_eq m (get_or lits i z)))
+      ∙ sym (list_any_more (lit_eq m) lits i z l),
+  subst IsEachOnce (sym g) (IsDistinct-push lit_eq-equiv out (get_or lits i z) o (ap (λ (c : Clause). has c (get_or lits i z)) (sym e) ∙ sym f)),
+)
