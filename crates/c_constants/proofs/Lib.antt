@@ -1,0 +1,4 @@
+pub mod Holding
+pub mod Evaluating
+pub mod Firsts
+pub mod Telling
