@@ -144,7 +144,7 @@ module _ (K L : ℕ → Type 0) (I J C D : Type 0) (names : (g : ℕ) → K g �
     fits_less (flat.Binary' _ (flat.more_of-FlatExpr a _) operator _ (flat.more_of-FlatExpr b _)) h = (fits_less a h.0, fits_less b h.1)
     fits_less (flat.Conditional' _ (flat.more_of-FlatExpr c _) _ (flat.more_of-FlatExpr a _) _ (flat.more_of-FlatExpr b _)) h = (fits_less c h.0, fits_less a h.1, fits_less b h.2)
     fits_less (flat.Parentheses' place _ (flat.more_of-FlatExpr a _)) h = fits_less a h
-    fits_less (flat.Concatenation' place _ parts) h = (row_less parts h.0, h.1)
+    fits_less (flat.Concatenation' place _ parts) h = (row_less parts h.0, h.1, copies h.2)
     fits_less (flat.Replication' place c _ parts) h = (row_less parts h.0, h.1, h.2, copies h.3)
     fits_less (flat.Signed' place _ (flat.more_of-FlatExpr a _)) h = fits_less a h
     fits_less (flat.Unsigned' place _ (flat.more_of-FlatExpr a _)) h = fits_less a h

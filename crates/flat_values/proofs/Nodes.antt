@@ -96,12 +96,13 @@ module _ (K : ℕ → Type 0) (I C : Type 0) (shapes : ℕ → Shape) {e : FlatE
   meant-concatenation p items got is is_a =
       ap (meant shapes) is ∙ parts_row shapes (hidden-the_row-FlatExpr-1 items) ∙ ap (list_meant shapes) (items_hidden-the_row-FlatExpr-1 items ∙ sym is_a)
 
-  pub fits-concatenation : (p : Place) (items got : List FlatExpr) → e ≡ Concatenation p items → got ≡ items → Fits K I C shapes e → FitsList K I C shapes got × IsWidth (list_meant shapes got).length
+  pub fits-concatenation : (p : Place) (items got : List FlatExpr) → e ≡ Concatenation p items → got ≡ items → Fits K I C shapes e → FitsList K I C shapes got × IsWidth (list_meant shapes got).length × C
   fits-concatenation p items got is is_a h =
       let f = subst (Fits K I C shapes) is h in
       let g = items_hidden-the_row-FlatExpr-1 items ∙ sym is_a in (
         subst (FitsList K I C shapes) g (fits_row K I C shapes (hidden-the_row-FlatExpr-1 items) f.0),
         subst (λ (m : Meant). IsWidth m.length) (parts_row shapes (hidden-the_row-FlatExpr-1 items) ∙ ap (list_meant shapes) g) f.1,
+        f.2,
       )
 
   pub meant-replication : (p : Place) (c : ℕ) (items got : List FlatExpr) → e ≡ Replication p c items → got ≡ items → meant shapes e ≡ replicated c (list_meant shapes got)

@@ -81,8 +81,8 @@ is_number e = false
 abbrev pub IsIndex : (ℕ → Shape) → FlatExpr → Type 0
 IsIndex shapes i = own_fixed (meant shapes i) ≡ is_number i
 
--- what is asked of a signal's number, and whether selects by an index and copies are taken, are for the caller to say
-module _ (known : ℕ → Type 0) (by_index copied : Type 0) (shapes : ℕ → Shape) where
+-- what is asked of a signal's number, and whether selects by an index, concatenations and replications are taken, are for the caller to say
+module _ (known : ℕ → Type 0) (by_index joined : Type 0) (shapes : ℕ → Shape) where
   abbrev mutual
     pub Fits : FlatExpr → Type 0
     Fits (flat.Literal n) = IsWord n.word
@@ -93,8 +93,8 @@ module _ (known : ℕ → Type 0) (by_index copied : Type 0) (shapes : ℕ → S
     Fits (flat.Binary' _ (flat.more_of-FlatExpr a _) operator _ (flat.more_of-FlatExpr b _)) = Fits a × Fits b
     Fits (flat.Conditional' _ (flat.more_of-FlatExpr c _) _ (flat.more_of-FlatExpr a _) _ (flat.more_of-FlatExpr b _)) = Fits c × Fits a × Fits b
     Fits (flat.Parentheses' place _ (flat.more_of-FlatExpr a _)) = Fits a
-    Fits (flat.Concatenation' place _ parts) = FitsParts parts × IsWidth (parts_meant shapes parts).length
-    Fits (flat.Replication' place c _ parts) = FitsParts parts × IsWidth (parts_meant shapes parts).length × IsWidth (c * (parts_meant shapes parts).length) × copied
+    Fits (flat.Concatenation' place _ parts) = FitsParts parts × IsWidth (parts_meant shapes parts).length × joined
+    Fits (flat.Replication' place c _ parts) = FitsParts parts × IsWidth (parts_meant shapes parts).length × IsWidth (c * (parts_meant shapes parts).length) × joined
     Fits (flat.Signed' place _ (flat.more_of-FlatExpr a _)) = Fits a
     Fits (flat.Unsigned' place _ (flat.more_of-FlatExpr a _)) = Fits a
 
