@@ -1,0 +1,13 @@
+mod Rules
+mod Rows
+mod Faults
+mod Turns
+mod States
+mod Takes
+mod Doomed
+mod Names
+mod Forms
+mod Agreeing
+mod Once
+mod Fitting
+mod Giving
