@@ -5,8 +5,8 @@
 
 Of `c.actions` and `c.sorts` the files of `crates/c_grammar`, of `verilog.actions` and `verilog.sorts` those of
 `crates/v_grammar`: `src/lib.rt`, the table; `specs/Symbols.antt`, the names of the symbols;
-`specs/Productions.antt`, the productions without their actions; and what the actions take and give. `rt fmt` in the
-crate lays them out afterwards. With `--check` nothing is written: where a file isn't what the tools give, blanks and
+`specs/Productions.antt`, the productions without their actions; and what the actions take and give. Of both the words that
+`show_grammars` prints, and what it has to print. `rt fmt` in the crates lays them out afterwards. With `--check` nothing is written: where a file isn't what the tools give, blanks and
 commas before a bracket aside, it is named, and the status is 1.
 """
 import contextlib
@@ -151,6 +151,38 @@ pub fn table() -> Table
 """
 
 
+def is_class(word):
+    return word in ("ID", "INT", "CHAR", "STRING", "DEC", "BASED")
+
+
+def shown(word):
+    """A token in quotes, a class of tokens and a nonterminal without."""
+    word = bare(word)
+    return word if is_class(word) else f'"{word}"'
+
+
+def program_files():
+    """The words for the symbols of both grammars, and both grammars as text, for `show_grammars`."""
+    names, text = ["//! The words for the symbols of both grammars, made by `grammars/generate.py`."], []
+    for language, (name, _, _, _, _, _) in LANGUAGES.items():
+        path = f"{TOP}/grammars/{name}.actions"
+        grammar, tokens = Grammar(path), token_names(path)
+        first, rows = plain(grammar)
+        for kind, words in (("TOKENS", [shown(word) for word in tokens]), ("NAMES", grammar.names[:first])):
+            quoted = ", ".join('"' + word.replace('"', '\\"') + '"' for word in words)
+            names.append(f"pub static {language.upper()}_{kind}: [&str; {len(words)}] = [{quoted}];")
+        text += [f"The {language} profile", ""]
+        for head in grammar.names[:first]:
+            bodies = []
+            for _, body, barred in (row for row in rows if row[0] == head):
+                words = " ".join(word if grammar.is_nonterminal(word) else shown(word) for word in body) or "nothing"
+                bodies.append(words + (f" (not before {shown(barred)})" if barred else ""))
+            text.append(f"{head} = " + " | ".join(bodies))
+        text.append("")
+    yield "crates/show_grammars/src/words.rt", "\n\n".join(names) + "\n"
+    yield "crates/show_grammars/stdout", "\n".join(text[:-1]) + "\n"
+
+
 def library_file(language, page):
     name, crate, token_crate, module, lists, _ = LANGUAGES[language]
     path = f"{TOP}/grammars/{name}.actions"
@@ -177,6 +209,7 @@ def files():
         yield f"crates/{crate}/specs/Productions.antt", productions_file(language, crate, page, tokens, rows)
         for path, head, parts in sorts:
             yield f"crates/{path}", head + sorts_file(language, name, parts)
+    yield from program_files()
 
 
 def without_layout(text):
