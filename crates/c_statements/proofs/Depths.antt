@@ -14,6 +14,7 @@ use Rattle.c_words.specs.Types.{named}
 use Rattle.c_names.specs.declared.scope.Entry.{Entry}
 use Rattle.c_names.specs.declared.scope.Entry.TheVariants as entry
 use Rattle.c_names.specs.Scope.{Scope, declare, leave}
+use Rattle.c_statements.specs.Arrays.{declared_length}
 use Rattle.c_statements.specs.Known.{Known, enter}
 use Rattle.c_statements.specs.Statements.{is_some, declared_name, pending, local_entry, declarator_known, declarators_known, first_known, after_expression, own, at_body, known_after, known_after_item, known_after_row, items_known}
 
@@ -32,7 +33,7 @@ declarators_depth : (t : IntType) (c : Bool) (ds : List Declarator) (k : Known) 
 declarators_depth t c [] k = refl
 declarators_depth t c (d ∷ ds) k =
     declarators_depth t c ds (declarator_known t c d k)
-    ∙ declare_length (pending k (declared_name d)) (declared_name d).name (local_entry (length k.locals) t c)
+    ∙ declare_length (pending k (declared_name d)) (declared_name d).name (local_entry (length k.locals) t (declared_length d) c)
     ∙ declare_length k.scopes (declared_name d).name entry.Pending
 
 pub first_depth : (f : ForFirst) (k : Known) → depth (first_known f k) ≡ depth k

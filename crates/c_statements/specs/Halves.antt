@@ -7,8 +7,14 @@ use Rattle.c_words.specs.declared.notes.Notes.{Notes}
 use Rattle.c_words.specs.Notes.{noted}
 use Rattle.c_names.specs.Scope.{Scope}
 use Rattle.c_statements.specs.Calls.{args_typed, args_offences, args_sites}
+use Rattle.c_statements.specs.Arrays.{elements_typed}
 
 -- after some arguments: what is left to do, from what is done
 pub record ArgsSoFar (env : List Scope) (old now : Notes) (params : List IntType) (args : List Expression) (i : ℕ) (done : List TExpr) : Type 0 where
   pub typed_so : args_typed env (length old.sites) params 0 args ≡ done ++ args_typed env (length now.sites) params i (drop i args)
   pub notes_so : noted old (args_offences env args) (args_sites env args) ≡ noted now (args_offences env (drop i args)) (args_sites env (drop i args))
+
+-- after some elements of an array
+pub record ElementsSoFar (env : List Scope) (old now : Notes) (t : IntType) (es : List Expression) (i : ℕ) (done : List TExpr) : Type 0 where
+  pub typed_so : elements_typed env (length old.sites) t es ≡ done ++ elements_typed env (length now.sites) t (drop i es)
+  pub notes_so : noted old (args_offences env es) (args_sites env es) ≡ noted now (args_offences env (drop i es)) (args_sites env (drop i es))

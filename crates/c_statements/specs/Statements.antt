@@ -39,7 +39,8 @@ use Rattle.c_names.specs.Scope.{Scope, declare, declared_in}
 use Rattle.c_expressions.specs.Expressions.{typed_of, offences_in, sites_in, type_or_int}
 use Rattle.c_statements.specs.declared.calls.Signature.{Signature}
 use Rattle.c_statements.specs.declared.walk.Around.{Around}
-use Rattle.c_statements.specs.Calls.{init_offences, init_sites, init_typed}
+use Rattle.c_statements.specs.Calls.{init_offences, init_sites, init_typed, args_offences, args_sites}
+use Rattle.c_statements.specs.Arrays.{declared_length, length_offences, elements_typed}
 use Rattle.c_statements.specs.Simple.{simple_offences, simple_sites, simple_typed}
 use Rattle.c_statements.specs.Known.{Known, with_scopes, enter, leave_scope, more}
 
@@ -57,13 +58,6 @@ declared_name (declarator.Initialized x i) = x
 declared_name (declarator.Array x n) = x
 declared_name (declarator.InitializedArray x n es) = x
 
--- an array isn't typed yet
-abbrev pub initializer_of : Declarator → Option Initializer
-initializer_of (declarator.Plain x) = None
-initializer_of (declarator.Initialized x i) = Some i
-initializer_of (declarator.Array x n) = None
-initializer_of (declarator.InitializedArray x n es) = None
-
 abbrev pub option_init_offences : List Signature → List Scope → Option Initializer → List Offence
 option_init_offences fns env None = []
 option_init_offences fns env (Some i) = init_offences fns env i
@@ -80,34 +74,54 @@ option_init_typed fns env base t (Some i) = init_typed fns env base t i
 abbrev pub pending : Known → Identifier → List Scope
 pending k x = declare k.scopes x.name entry.Pending
 
-abbrev pub var_of : IntType → (constant : Bool) → Identifier → Var
-var_of t constant x = record { name = x.name; ty = t; length = 0; firsts = []; constant = constant }
+abbrev pub var_of : IntType → (length : ℕ) → (constant : Bool) → Identifier → Var
+var_of t n constant x = record { name = x.name; ty = t; length = n; firsts = []; constant = constant }
 
-abbrev pub local_entry : ℕ → IntType → (constant : Bool) → Entry
-local_entry n t constant = entry.Object (record { slot = InLocals (number_of n); ty = t; length = 0; constant = constant })
+abbrev pub local_entry : ℕ → IntType → (length : ℕ) → (constant : Bool) → Entry
+local_entry i t n constant = entry.Object (record { slot = InLocals (number_of i); ty = t; length = n; constant = constant })
 
 -- with the object of a name
-abbrev pub with_local : Known → IntType → (constant : Bool) → Identifier → Known
-with_local k t constant x = record {
+abbrev pub with_local : Known → IntType → (length : ℕ) → (constant : Bool) → Identifier → Known
+with_local k t n constant x = record {
   fns = k.fns;
-  scopes = declare k.scopes x.name (local_entry (length k.locals) t constant);
-  locals = k.locals ++ var_of t constant x ∷ [];
+  scopes = declare k.scopes x.name (local_entry (length k.locals) t n constant);
+  locals = k.locals ++ var_of t n constant x ∷ [];
   sites = k.sites;
 }
 
+-- what a declarator sets its object to
+abbrev pub value_offences : List Signature → List Scope → Declarator → List Offence
+value_offences fns env (declarator.Plain x) = []
+value_offences fns env (declarator.Initialized x i) = init_offences fns env i
+value_offences fns env (declarator.Array x n) = []
+value_offences fns env (declarator.InitializedArray x n es) = args_offences env es
+
+abbrev pub value_sites : List Scope → Declarator → List Site
+value_sites env (declarator.Plain x) = []
+value_sites env (declarator.Initialized x i) = init_sites env i
+value_sites env (declarator.Array x n) = []
+value_sites env (declarator.InitializedArray x n es) = args_sites env es
+
+abbrev pub value_typed : List Signature → List Scope → (base : ℕ) → IntType → Declarator → TInit
+value_typed fns env base t (declarator.Plain x) = init.Free
+value_typed fns env base t (declarator.Initialized x i) = init_typed fns env base t i
+value_typed fns env base t (declarator.Array x n) = init.Free
+value_typed fns env base t (declarator.InitializedArray x n es) = init.Values (elements_typed env base t es)
+
 abbrev pub declarator_known : IntType → (constant : Bool) → Declarator → Known → Known
 declarator_known t constant d k =
-    with_local (more (with_scopes k (pending k (declared_name d))) (option_init_sites (pending k (declared_name d)) (initializer_of d))) t constant (declared_name d)
+    with_local (more (with_scopes k (pending k (declared_name d))) (value_sites (pending k (declared_name d)) d)) t (declared_length d) constant (declared_name d)
 
 abbrev pub declarator_offences : Known → Declarator → List Offence
 declarator_offences k d =
-    again_offences (declared_name d).place (declared_in k.scopes (declared_name d).name)
-    ++ option_init_offences k.fns (pending k (declared_name d)) (initializer_of d)
+    length_offences k.scopes d
+    ++ (again_offences (declared_name d).place (declared_in k.scopes (declared_name d).name)
+    ++ value_offences k.fns (pending k (declared_name d)) d)
 
 abbrev pub declarator_typed : IntType → Known → Declarator → TStmt
 declarator_typed t k d = record {
   place = (declared_name d).place;
-  node = Declare (number_of (length k.locals)) (option_init_typed k.fns (pending k (declared_name d)) (length k.sites) t (initializer_of d));
+  node = Declare (number_of (length k.locals)) (value_typed k.fns (pending k (declared_name d)) (length k.sites) t d);
 }
 
 abbrev pub declarators_known : IntType → (constant : Bool) → List Declarator → Known → Known

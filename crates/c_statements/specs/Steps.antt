@@ -21,6 +21,9 @@ use Rattle.c_statements.specs.declared.calls.Signature.{Signature}
 use Rattle.c_expressions.specs.Expressions.{path_type, path_sites, offences_in, operator_sites}
 use Rattle.c_statements.specs.declared.simple.Aim.{Aim}
 use Rattle.c_statements.specs.Simple.{target_typed, target_offences, updated, update_typed, update_sites, stepped_typed, stepped_sites, simple_typed, simple_offences, simple_sites}
+use Rattle.c_constants.specs.declared.Constant.{Constant}
+use Rattle.c_constants.specs.Constants.{constant_of, told}
+use Rattle.c_statements.specs.Arrays.{elements_typed, array_offences}
 use Rattle.c_statements.specs.Calls.{args_typed, args_offences, args_sites, call_args, call_offences, init_typed, init_offences, init_sites}
 
 pub record AreArgs (env : List Scope) (old new : Notes) (params : List IntType) (args : List Expression) (ts : List TExpr) : Type 0 where
@@ -56,3 +59,12 @@ pub record IsUpdate (env : List Scope) (old new : Notes) (x : Path) (mark : Assi
 pub record IsStep (env : List Scope) (old new : Notes) (x : Path) (mark : StepMark) (n : SNode) : Type 0 where
   pub typed : n ≡ stepped_typed env (length old.sites) x mark
   pub notes : new ≡ noted old (target_offences env x) (stepped_sites env x mark)
+
+pub record AreElements (env : List Scope) (old new : Notes) (t : IntType) (es : List Expression) (ts : List TExpr) : Type 0 where
+  pub typed : ts ≡ elements_typed env (length old.sites) t es
+  pub notes : new ≡ noted old (args_offences env es) (args_sites env es)
+
+-- the length of an array, by an expression
+pub record IsLength (env : List Scope) (old new : Notes) (e : Expression) (c : Constant) : Type 0 where
+  pub value : c ≡ constant_of e
+  pub notes : new ≡ told old (array_offences env e)

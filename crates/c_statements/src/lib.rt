@@ -3,6 +3,7 @@
 //! Knows nothing of how functions and the objects of file scope come to be declared.
 #![tactic(auto)]
 
+pub mod arrays;
 pub mod calls;
 pub mod simple;
 pub mod walk;

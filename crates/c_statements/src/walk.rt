@@ -2,7 +2,8 @@
 
 ghost use Rattle.std.specs.Prelude.{◌≡◌, ◌++◌, ◌<◌, [], length, IfOk, OnOk};
 ghost use Rattle.c_tree.specs.Starts.{simple_start, path_start};
-ghost use Rattle.c_statements.specs.Statements.{again_offences, declared_name as declared_name_of, initializer_of, pending as pending_in, declarator_typed, declarator_offences, declarator_known, local_typed, local_offences, local_known, first_typed, first_offences, first_known, with_local, assert_typed, simple_stmt, condition_typed, condition_offences, condition_sites, step_typed, step_offences, step_sites, return_typed, return_offences, wrong_return, jump_offences, in_a_loop as in_a_loop_of, own as with_own, id_of, after_expression, option_init_typed, option_init_offences, option_init_sites, while_typed as while_typed_of, do_typed as do_typed_of, for_typed as for_typed_of};
+ghost use Rattle.c_statements.specs.Statements.{again_offences, declared_name as declared_name_of, pending as pending_in, value_typed, value_offences, value_sites, declarator_typed, declarator_offences, declarator_known, local_typed, local_offences, local_known, first_typed, first_offences, first_known, with_local, assert_typed, simple_stmt, condition_typed, condition_offences, condition_sites, step_typed, step_offences, step_sites, return_typed, return_offences, wrong_return, jump_offences, in_a_loop as in_a_loop_of, own as with_own, id_of, after_expression, option_init_typed, option_init_offences, option_init_sites, while_typed as while_typed_of, do_typed as do_typed_of, for_typed as for_typed_of};
+ghost use Rattle.c_statements.specs.Arrays.{declared_length, length_offences};
 ghost use Rattle.c_statements.specs.Known.{more, enter as enter_of, leave_scope, with_scopes};
 ghost use Rattle.c_statements.specs.Moves.{known_of, Goes};
 ghost use Rattle.c_statements.specs.Walks.{AreDeclared, IsStmt, AreItems, IsItem};
@@ -12,6 +13,7 @@ ghost use Rattle.c_expressions.specs.Expressions.{typed_of, offences_in};
 ghost use Rattle.c_statements.specs.Simple.{simple_sites, simple_offences};
 ghost use Rattle.c_statements.specs.Calls.{init_typed, init_offences, init_sites};
 
+use crate::arrays::{array_length, elements, note_excess, read_length};
 use crate::calls::{Signature, initial};
 use crate::simple::simple;
 use c_expressions::expressions::expression;
@@ -301,17 +303,41 @@ impl Typer {
         Ok(())
     }
 
-    /// The initializer of a declarator, if it has one.
-    fn declared_value(&mut self, ty: IntType, d: &Declarator) -> Result<TInit, AllocError>
-        ensures typed { IfOk result (λ t. t ≡ option_init_typed self.old.signatures self.old.scopes (length self.old.notes.sites) ty (initializer_of d.now)) }
-        ensures goes { OnOk result (Goes self.old self.new (option_init_offences self.old.signatures self.old.scopes (initializer_of d.now)) (more (known_of self.old) (option_init_sites self.old.scopes (initializer_of d.now)))) }
+    /// The length of a declared array; 0 for what is no array.
+    fn measure(&mut self, d: &Declarator) -> Result<u32, AllocError>
+        ensures length { IfOk result (λ n. n ≡ declared_length d.now) }
+        ensures goes { OnOk result (Goes self.old self.new (length_offences self.old.scopes d.now) (known_of self.old)) }
     {
         match d {
+            Declarator::Plain(_) | Declarator::Initialized(_, _) => Ok(0),
+            Declarator::Array(_, n) => {
+                let c = read_length(self.alloc, &self.scopes, &mut self.notes, n)?;
+                Ok(array_length(c))
+            }
+            Declarator::InitializedArray(_, n, es) => {
+                let c = read_length(self.alloc, &self.scopes, &mut self.notes, n)?;
+                note_excess(&mut self.notes, c, es.as_slice());
+                Ok(array_length(c))
+            }
+        }
+    }
+
+    /// What a declarator sets its object to.
+    fn declared_value(&mut self, ty: IntType, d: &Declarator) -> Result<TInit, AllocError>
+        ensures typed { IfOk result (λ t. t ≡ value_typed self.old.signatures self.old.scopes (length self.old.notes.sites) ty d.now) }
+        ensures goes { OnOk result (Goes self.old self.new (value_offences self.old.signatures self.old.scopes d.now) (more (known_of self.old) (value_sites self.old.scopes d.now))) }
+    {
+        match d {
+            Declarator::Plain(_) | Declarator::Array(_, _) => Ok(TInit::Free),
             Declarator::Initialized(_, i) => {
                 let t = self.init(ty, i)?;
                 Ok(t)
             }
-            _ => Ok(TInit::Free),
+            Declarator::InitializedArray(_, _, es) => {
+                let es = es.as_slice();
+                let ts = elements(self.alloc, &self.scopes, &mut self.notes, ty, es)?;
+                Ok(TInit::Values(ts))
+            }
         }
     }
 
@@ -319,24 +345,25 @@ impl Typer {
     pub fn finish(
         &mut self,
         ty: IntType,
+        count: u32,
         constant: bool,
         name: &Identifier,
     ) -> Result<u32, AllocError>
         ensures slot { IfOk result (λ n. n ≡ number_of (length self.old.locals)) }
-        ensures goes { OnOk result (Goes self.old self.new [] (with_local (known_of self.old) ty constant name.now)) }
+        ensures goes { OnOk result (Goes self.old self.new [] (with_local (known_of self.old) ty count constant name.now)) }
     {
         let slot = number(self.locals.len());
         self.locals.push(Var {
             name: name.name.clone()?,
             ty,
-            length: 0,
+            length: count,
             firsts: Items::new(self.alloc),
             constant,
         })?;
         let target = Target {
             slot: Slot::Local(slot),
             ty,
-            length: 0,
+            length: count,
             constant,
         };
         self.scopes.declare(&name.name, Entry::Object(target))?;
@@ -353,9 +380,10 @@ impl Typer {
         ensures goes { OnOk result (Goes self.old self.new (declarator_offences (known_of self.old) d.now) (declarator_known ty constant d.now (known_of self.old))) }
     {
         let name = declared_name(d);
+        let count = self.measure(d)?;
         self.begin(name)?;
         let init = self.declared_value(ty, d)?;
-        let slot = self.finish(ty, constant, name)?;
+        let slot = self.finish(ty, count, constant, name)?;
         Ok(TStmt {
             place: name.place,
             node: SNode::Declare(slot, init),
