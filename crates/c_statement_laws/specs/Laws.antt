@@ -1,0 +1,24 @@
+-- What typed statements have of their sources.
+use Rattle.std.specs.Prelude.{◌≡◌, ℕ, List, [], false}
+use Rattle.c_tree.specs.declared.declarations.Initializer.{Initializer}
+use Rattle.c_tree.specs.declared.declarations.Initializer.TheVariants as initializer
+use Rattle.c_tree.specs.declared.expressions.Call.{Call}
+use Rattle.joint_ir.specs.declared.ctype.IntType.{IntType}
+use Rattle.joint_ir.specs.Types.{IsType}
+use Rattle.joint_ir.specs.WellFormed as well
+use Rattle.joint_ir.specs.WellFormed.{FitsInit}
+use Rattle.c_words.specs.declared.notes.Site.{Site}
+use Rattle.c_names.specs.Scope.{Scope}
+use Rattle.c_expressions.specs.Values.{StandAt}
+use Rattle.c_meaning.specs.Sound.{AreThere, AreProps}
+use Rattle.c_statements.specs.declared.calls.Signature.{Signature}
+use Rattle.c_statements.specs.Calls.{callee, init_offences, init_sites, init_typed}
+use Rattle.c_statement_laws.specs.Agreeing.{Agree, InitBytes, HasSignature}
+
+-- what an object of a type is set to is well-formed, a call with its arguments too, where nothing in it is an offence
+abbrev pub InitializersFit : Type 0
+InitializersFit =
+    (c : well.Scope) (all : List Site) → AreProps all c.program → (env : List Scope) → AreThere c env →
+    (fns : List Signature) → Agree c.program fns → (t : IntType) → IsType t → (base : ℕ) (i : Initializer) →
+    ((call : Call) → i ≡ initializer.Called call → HasSignature fns (callee env call)) →
+    init_offences fns env i ≡ [] → InitBytes i → StandAt all base (init_sites env i) → FitsInit c false t (init_typed fns env base t i)

@@ -1,0 +1,11 @@
+//! What typed statements have of their sources.
+//!
+//! Nothing here does anything: each function is the statement of a law.
+#![tactic(auto)]
+
+ghost use Rattle.c_statement_laws.specs.Laws.{InitializersFit};
+
+/// What an object is set to is well-formed, a call with its arguments too.
+pub fn initializers_fit()
+    ensures { InitializersFit }
+{}
