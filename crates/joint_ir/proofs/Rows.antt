@@ -23,14 +23,14 @@ use Rattle.joint_ir.specs.declared.program.PropId.{PropId}
 use Rattle.joint_ir.specs.declared.program.PropKind.TheVariants as kind
 use Rattle.joint_ir.specs.declared.program.Var.{Var}
 use Rattle.joint_ir.specs.declared.stmt.SNode.{SNode, Block, Declare, Store, Loop, Assert, NextFrame, end_of-TStmt, more_of-TStmt, Some'}
-use Rattle.joint_ir.specs.declared.stmt.TInit.TheVariants.{Values}
+use Rattle.joint_ir.specs.declared.stmt.TInit.TheVariants.{Free, Values}
 use Rattle.joint_ir.specs.declared.stmt.TLoop.{TLoop'}
 use Rattle.joint_ir.specs.declared.stmt.TStmt.{TStmt}
 use Rattle.joint_ir.specs.declared.stmt.TTarget.{TTarget}
 use Rattle.joint_ir.specs.declared.event.Event.{Event}
 use Rattle.joint_ir.specs.Types.{int, converted}
 use Rattle.joint_ir.specs.Values.{Value, Fault, binary_value}
-use Rattle.joint_ir.specs.Effects.{Stops}
+use Rattle.joint_ir.specs.Effects.{Told, Stops}
 use Rattle.joint_ir.specs.Machine.{Over, IsBroken, steps, first_configuration}
 use Rattle.joint_ir.specs.Runs.{run_of}
 use Rattle.joint_ir.specs.Weights.{weight_of}
@@ -161,16 +161,36 @@ set x n = Stored 1 (Local x) None (pos n)
 abbrev first_frame : Event
 first_frame = Frame 0 ((record { signal = 1; word = 0; value = 0 }) ∷ [])
 
+-- a run that draws nothing
+abbrev only_seen : List Event → Told
+only_seen events = record { events = events; widths = [] }
+
 abbrev two_turns : List Event → List Event
 two_turns rest = first_frame ∷ set 0 0 ∷ set 1 0 ∷ set 0 0 ∷ set 1 1 ∷ set 0 1 ∷ set 1 2 ∷ rest
 
-three_turns_end : run_of summing (bounds_of 3 10) [] ≡ Stops Ended (two_turns (set 0 3 ∷ set 1 3 ∷ [])) []
+three_turns_end : run_of summing (bounds_of 3 10) [] ≡ Stops Ended (only_seen (two_turns (set 0 3 ∷ set 1 3 ∷ []))) []
 unfolding hidden-the_row-TStmt-0 hidden-the_row-TExpr-0 hidden
 three_turns_end = refl
 
-a_third_turn_breaks : run_of summing (bounds_of 2 10) [] ≡ Stops (Broken p1) (two_turns (Broke p1 ∷ [])) []
+a_third_turn_breaks : run_of summing (bounds_of 2 10) [] ≡ Stops (Broken p1) (only_seen (two_turns (Broke p1 ∷ []))) []
 unfolding hidden-the_row-TStmt-0 hidden-the_row-TExpr-0 hidden
 a_third_turn_breaks = refl
+
+abbrev byte_var : Var
+byte_var = record { name = []; ty = byte; length = 0; firsts = []; constant = false }
+
+-- `unsigned char a[2]; int x;`
+abbrev open_objects : Pair
+open_objects = pair_of (record byte_var { length = 2 } ∷ int_var ∷ []) (Declare 0 Free ∷ Declare 1 Free ∷ [])
+
+-- an element at a time, each choice modulo 2^8 and then modulo 2^32
+three_draws : run_of open_objects (bounds_of 1 1) (300 ∷ 7 ∷ 4294967295 ∷ 5 ∷ [])
+    ≡ Stops Ended (record {
+      events = first_frame ∷ Stored 1 (Local 0) (Some 0) (pos 44) ∷ Stored 1 (Local 0) (Some 1) (pos 7) ∷ Stored 1 (Local 1) None (negsuc 0) ∷ [];
+      widths = 8 ∷ 8 ∷ 32 ∷ [];
+    }) (5 ∷ [])
+unfolding hidden-the_row-TStmt-0 hidden-the_row-TExpr-0 hidden
+three_draws = refl
 
 -- the mirror of `counter.v`, with a member of 8 bits
 abbrev mirrored : List SNode → Pair
@@ -203,15 +223,15 @@ counting n = mirrored (NextFrame p0 ∷ NextFrame p0 ∷ count_is n ∷ [])
 abbrev frame : ℕ → Event
 frame n = Frame n ((record { signal = 1; word = 0; value = n }) ∷ [])
 
-two_edges_count_to_two : run_of (counting 2) (bounds_of 1 2) [] ≡ Stops Ended (frame 0 ∷ frame 1 ∷ frame 2 ∷ []) []
+two_edges_count_to_two : run_of (counting 2) (bounds_of 1 2) [] ≡ Stops Ended (only_seen (frame 0 ∷ frame 1 ∷ frame 2 ∷ [])) []
 unfolding hidden-the_row-TStmt-0 hidden-the_row-TExpr-0 hidden
 two_edges_count_to_two = refl
 
-and_not_to_three : run_of (counting 3) (bounds_of 1 2) [] ≡ Stops (Broken p1) (frame 0 ∷ frame 1 ∷ frame 2 ∷ Broke p1 ∷ []) []
+and_not_to_three : run_of (counting 3) (bounds_of 1 2) [] ≡ Stops (Broken p1) (only_seen (frame 0 ∷ frame 1 ∷ frame 2 ∷ Broke p1 ∷ [])) []
 unfolding hidden-the_row-TStmt-0 hidden-the_row-TExpr-0 hidden
 and_not_to_three = refl
 
-the_frames_end : run_of (counting 3) (bounds_of 1 1) [] ≡ Stops OutOfFrames (frame 0 ∷ frame 1 ∷ []) []
+the_frames_end : run_of (counting 3) (bounds_of 1 1) [] ≡ Stops OutOfFrames (only_seen (frame 0 ∷ frame 1 ∷ [])) []
 unfolding hidden-the_row-TStmt-0 hidden-the_row-TExpr-0 hidden
 the_frames_end = refl
 

@@ -22,8 +22,8 @@ use Rattle.joint_ir.specs.declared.stmt.TTarget.{TTarget}
 use Rattle.src_text.specs.declared.refusal.Place.{Place}
 use Rattle.joint_ir.specs.Types.{converted}
 use Rattle.joint_ir.specs.Values.{Answer, Value, Fault, value_of, is_zero}
-use Rattle.joint_ir.specs.States.{JointState, first_rows}
-use Rattle.joint_ir.specs.Effects.{Effect, Goes, Stops, TooFew, Next, Breaking, Continuing, Returning, Onward}
+use Rattle.joint_ir.specs.States.{JointState}
+use Rattle.joint_ir.specs.Effects.{Effect, nothing, Goes, Stops, TooFew, Next, Breaking, Continuing, Returning, Onward}
 use Rattle.joint_ir.specs.Steps.{Setting, rows_in, with_locals, returning, slot_type, result_of, type_or_int, var_type, within_bounds, store_at, store_effect, update_effect, declare_effect, return_effect, set_inputs, next_frame}
 use Rattle.joint_ir.specs.Statements.{no_calls, condition_value, entered, set_params, closing, any_result}
 use Rattle.joint_ir.specs.Runs.{with_first_state, body_of}
@@ -89,11 +89,11 @@ stopped (Broken p) = IsBroken p
 
 -- goes on as a statement does, with these tasks behind it
 abbrev pub onward : List Task → Effect → Configuration
-onward tasks (Goes Next s events c) = At tasks s c
-onward tasks (Goes Breaking s events c) = At (behind_break tasks) s c
-onward tasks (Goes Continuing s events c) = At (behind_turn tasks) s c
-onward tasks (Goes Returning s events c) = behind_body tasks s c
-onward tasks (Stops o events c) = stopped o
+onward tasks (Goes Next s told c) = At tasks s c
+onward tasks (Goes Breaking s told c) = At (behind_break tasks) s c
+onward tasks (Goes Continuing s told c) = At (behind_turn tasks) s c
+onward tasks (Goes Returning s told c) = behind_body tasks s c
+onward tasks (Stops o told c) = stopped o
 onward tasks TooFew = Lacks
 
 -- goes on with a value
@@ -109,12 +109,12 @@ abbrev pub index_given : Setting → JointState → Option TExpr → (Option ℤ
 index_given k s None go = go None
 index_given k s (Some e) go = given (value_of (rows_in k s) e) (λ n. go (Some n))
 
--- a function at its arguments, with a place of its own for its locals
+-- a function at its arguments. Its parameters take them, and the caller's locals come back behind its body
 abbrev pub enter_body : Setting → (function : ℕ) → Function → Option TStmt → Place → List ℤ → List Task → JointState → List ℕ → Configuration
 enter_body k f fn None p args tasks s c = onward tasks (any_result fn.result s c)
 enter_body k f fn (Some body) p args tasks s c =
     onward (Do f body.place body.node ∷ BodyEnd f fn.result s.store.locals ∷ tasks)
-    (set_params p.line fn.first args (with_locals s (first_rows k.pair.program.locals)) c)
+    (set_params p.line fn.first args s c)
 
 abbrev pub enter : Setting → (function : ℕ) → Option Function → Place → List ℤ → List Task → JointState → List ℕ → Configuration
 enter k f None p args tasks s c = At tasks s c
@@ -147,7 +147,7 @@ return_step k (Some Free) tasks s c = onward tasks (return_effect k no_calls (So
 return_step k (Some (Values es)) tasks s c = onward tasks (return_effect k no_calls (Some (Values es)) s c)
 return_step k (Some (Called call)) tasks s c =
     call_step k call
-    (Rest k.here (λ s' c'. Goes Returning (returning s' (converted (type_or_int (result_of (slice_get k.pair.program.functions k.here))) s'.returned)) [] c') ∷ tasks) s c
+    (Rest k.here (λ s' c'. Goes Returning (returning s' (converted (type_or_int (result_of (slice_get k.pair.program.functions k.here))) s'.returned)) nothing c') ∷ tasks) s c
 
 -- statements, one after another
 abbrev pub tasks_of : {m : _} → (here : ℕ) → Row_of-TStmt m → List Task
@@ -235,7 +235,7 @@ main_tasks p (Some body) = Do p.program.main body.place body.node ∷ []
 -- the first configuration on a list of choices
 abbrev pub first_configuration : Pair → List ℕ → Configuration
 first_configuration p choices =
-    onward (main_tasks p (body_of (slice_get p.program.functions p.program.main))) (with_first_state p choices (λ s c. Goes Next s [] c))
+    onward (main_tasks p (body_of (slice_get p.program.functions p.program.main))) (with_first_state p choices (λ s c. Goes Next s nothing c))
 
 -- some step from some first state and some choices fails a property
 pub record Fails (pair : Pair) (bounds : Bounds) (p : PropId) : Type 0 where

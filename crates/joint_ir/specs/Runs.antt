@@ -10,10 +10,9 @@ use Rattle.joint_ir.specs.declared.program.PropId.{PropId}
 use Rattle.joint_ir.specs.declared.stmt.TStmt.{TStmt}
 use Rattle.joint_ir.specs.States.{first_rows}
 use Rattle.joint_ir.specs.Views.{widths_of, site_widths, filled, shown}
-use Rattle.joint_ir.specs.Effects.{Effect, Goes, Stops, TooFew, Next, Onward, then_do, draw, draw_all}
+use Rattle.joint_ir.specs.Effects.{Effect, Told, nothing, seen, Goes, Stops, TooFew, Next, Onward, then_do, draw, draw_all}
 use Rattle.joint_ir.specs.Steps.{Setting, settled_view}
 use Rattle.joint_ir.specs.Statements.{after, calls_at}
-use Rattle.joint_ir.specs.declared.event.Event.{Event}
 
 -- the activations that may stand at one time, the first one of `main` among them
 abbrev pub ACTIVATIONS : ℕ
@@ -47,28 +46,28 @@ body_of (Some fn) = fn.body
 
 -- what `main` does
 abbrev pub main_effect : Pair → Bounds → Option TStmt → Onward
-main_effect p b None s c = Goes Next s [] c
+main_effect p b None s c = Goes Next s nothing c
 main_effect p b (Some body) s c =
     let k : Setting = record { pair = p; bounds = b; here = p.program.main } in
     after k (calls_at p b 31 (p.program.main ∷ [])) body.place body.node s c
 
 -- a run ends where `main` has
 abbrev pub ended : Effect → Effect
-ended (Goes way s events c) = Stops Ended events c
-ended (Stops o events c) = Stops o events c
+ended (Goes way s told c) = Stops Ended told c
+ended (Stops o told c) = Stops o told c
 ended TooFew = TooFew
 
--- the run of a pair on a list of choices: how it ends, what is seen of it, and the choices that it leaves; or that it
--- draws more than there are
+-- the run of a pair on a list of choices: how it ends, what is seen of it, the widths that it draws, and the choices that
+-- it leaves; or that it draws more than there are
 abbrev pub run_of : Pair → Bounds → List ℕ → Effect
 run_of p b choices =
     with_first_state p choices (λ s c.
-    ended (then_do (Goes Next s (Frame 0 (shown p.module s.view) ∷ []) c)
+    ended (then_do (Goes Next s (seen (Frame 0 (shown p.module s.view))) c)
     (main_effect p b (body_of (slice_get p.program.functions p.program.main)))))
 
 -- some run breaks a property
 pub record CanBreak (pair : Pair) (bounds : Bounds) (p : PropId) : Type 0 where
   pub choices : List ℕ
-  pub events : List Event
+  pub told : Told
   pub rest : List ℕ
-  pub breaks : run_of pair bounds choices ≡ Stops (Broken p) events rest
+  pub breaks : run_of pair bounds choices ≡ Stops (Broken p) told rest

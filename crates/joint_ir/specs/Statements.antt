@@ -24,8 +24,8 @@ use Rattle.joint_ir.specs.declared.stmt.TStmt.{TStmt}
 use Rattle.src_text.specs.declared.refusal.Place.{Place}
 use Rattle.joint_ir.specs.Types.{converted}
 use Rattle.joint_ir.specs.Values.{Answer, Value, Rows, value_of, is_zero}
-use Rattle.joint_ir.specs.States.{JointState, first_rows}
-use Rattle.joint_ir.specs.Effects.{Effect, Goes, Stops, TooFew, Next, Breaking, Continuing, Returning, Onward, then_do, after_turn, after_groups, broken, with_value, draw}
+use Rattle.joint_ir.specs.States.{JointState}
+use Rattle.joint_ir.specs.Effects.{Effect, nothing, Goes, Stops, TooFew, Next, Breaking, Continuing, Returning, Onward, then_do, after_turn, after_groups, broken, with_value, draw}
 use Rattle.joint_ir.specs.Steps.{Setting, Calls, rows_in, limit_of, store_at, call_effect, store_effect, update_effect, declare_effect, return_effect, returning, with_locals, set_inputs, next_frame}
 
 -- the value of a condition; a `for` without one goes on
@@ -35,7 +35,7 @@ condition_value rows (Some e) = value_of rows e
 
 -- goes on where a condition isn't 0
 abbrev pub tested : (JointState → Answer) → Onward → Onward
-tested test go s c = with_value (test s) c (λ n. if is_zero n then Goes Next s [] c else go s c)
+tested test go s c = with_value (test s) c (λ n. if is_zero n then Goes Next s nothing c else go s c)
 
 -- at most n turns of a loop; one more breaks its property
 abbrev pub turns : (n : ℕ) → (JointState → Answer) → (body step : Onward) → PropId → Onward
@@ -74,7 +74,7 @@ entered n row =
 
 -- a switch: past all groups where control enters none
 abbrev pub at_entry : Option ℕ → (ℕ → Onward) → Onward
-at_entry None go s c = Goes Next s [] c
+at_entry None go s c = Goes Next s nothing c
 at_entry (Some i) go s c = after_groups (go i s c)
 
 abbrev mutual
@@ -90,22 +90,22 @@ abbrev mutual
   after k calls p (Loop loop) s c = after_loop k calls loop s c
   after k calls p (Switch' e _ groups) s c =
       with_value (value_of (rows_in k s) e) c (λ n. at_entry (entered n groups) (λ i. groups_from k calls i groups) s c)
-  after k calls p Break s c = Goes Breaking s [] c
-  after k calls p Continue s c = Goes Continuing s [] c
+  after k calls p Break s c = Goes Breaking s nothing c
+  after k calls p Continue s c = Goes Continuing s nothing c
   after k calls p (Return init) s c = return_effect k calls init s c
-  after k calls p (Assert e prop) s c = with_value (value_of (rows_in k s) e) c (λ n. if is_zero n then broken prop c else Goes Next s [] c)
-  after k calls p (Assume e) s c = with_value (value_of (rows_in k s) e) c (λ n. if is_zero n then Stops Cut [] c else Goes Next s [] c)
+  after k calls p (Assert e prop) s c = with_value (value_of (rows_in k s) e) c (λ n. if is_zero n then broken prop c else Goes Next s nothing c)
+  after k calls p (Assume e) s c = with_value (value_of (rows_in k s) e) c (λ n. if is_zero n then Stops Cut nothing c else Goes Next s nothing c)
   after k calls p SetInputs s c = set_inputs k s c
   after k calls p (NextFrame prop) s c = next_frame k prop s c
 
   -- what statements do one after another
   pub after_row : {m : _} → Setting → Calls → Row_of-TStmt m → Onward
-  after_row k calls end_of-TStmt s c = Goes Next s [] c
+  after_row k calls end_of-TStmt s c = Goes Next s nothing c
   after_row k calls (more_of-TStmt p a rest) s c = then_do (after k calls p a s c) (after_row k calls rest)
 
   -- what the `else` part of an `if` does, or the last part of a `for`, if there is one
   pub after_other : Setting → Calls → Held-SNode-If-2 → Onward
-  after_other k calls None' s c = Goes Next s [] c
+  after_other k calls None' s c = Goes Next s nothing c
   after_other k calls (Some' _ (more_of-TStmt p a _)) s c = after k calls p a s c
 
   pub after_loop : Setting → Calls → TLoop → Onward
@@ -116,7 +116,7 @@ abbrev mutual
 
   -- what the groups of a switch do from the i-th on; control falls through
   pub groups_from : {m : _} → Setting → Calls → ℕ → Row_of-Group m → Onward
-  groups_from k calls i end_of-Group s c = Goes Next s [] c
+  groups_from k calls i end_of-Group s c = Goes Next s nothing c
   groups_from k calls zero (more_of-Group g rest) s c = then_do (after_group k calls g s c) (groups_from k calls zero rest)
   groups_from k calls (suc i) (more_of-Group g rest) s c = groups_from k calls i rest s c
 
@@ -143,34 +143,36 @@ recursion_of props name = prop_or_none (position_from (λ p. if is_recursion p.k
 
 -- parameters take the arguments, from the local x on; they are seen with the line of the call
 abbrev pub set_params : (line x : ℕ) → List ℤ → Onward
-set_params line x [] s c = Goes Next s [] c
+set_params line x [] s c = Goes Next s nothing c
 set_params line x (n ∷ args) s c = then_do (store_at line (Local x) None n s c) (set_params line (x + 1) args)
 
 -- at the closing brace: a function with a result, other than `main`, gives any value
 abbrev pub closing : (is_main : Bool) → Option IntType → Onward
-closing true result s c = Goes Next (returning s (pos 0)) [] c
-closing false None s c = Goes Next (returning s (pos 0)) [] c
-closing false (Some t) s c = draw t.bits c (λ n rest. Goes Next (returning s (converted t (pos n))) [] rest)
+closing true result s c = Goes Next (returning s (pos 0)) nothing c
+closing false None s c = Goes Next (returning s (pos 0)) nothing c
+closing false (Some t) s c = draw t.bits c (λ n rest. Goes Next (returning s (converted t (pos n))) nothing rest)
 
 -- after a function's body: the caller's locals are back
 abbrev pub after_body : (is_main : Bool) → Option IntType → (locals : List (List ℤ)) → Effect → Effect
-after_body is_main result locals (Goes Returning s events c) = Goes Next (with_locals s locals) events c
-after_body is_main result locals (Goes Next s events c) = then_do (Goes Next (with_locals s locals) events c) (closing is_main result)
-after_body is_main result locals (Goes Breaking s events c) = then_do (Goes Next (with_locals s locals) events c) (closing is_main result)
-after_body is_main result locals (Goes Continuing s events c) = then_do (Goes Next (with_locals s locals) events c) (closing is_main result)
-after_body is_main result locals (Stops o events c) = Stops o events c
+after_body is_main result locals (Goes Returning s told c) = Goes Next (with_locals s locals) told c
+after_body is_main result locals (Goes Next s told c) = then_do (Goes Next (with_locals s locals) told c) (closing is_main result)
+after_body is_main result locals (Goes Breaking s told c) = then_do (Goes Next (with_locals s locals) told c) (closing is_main result)
+after_body is_main result locals (Goes Continuing s told c) = then_do (Goes Next (with_locals s locals) told c) (closing is_main result)
+after_body is_main result locals (Stops o told c) = Stops o told c
 after_body is_main result locals TooFew = TooFew
 
 -- a function without body gives any value of its result's type
 abbrev pub any_result : Option IntType → Onward
-any_result None s c = Goes Next s [] c
-any_result (Some t) s c = draw t.bits c (λ n rest. Goes Next (returning s (converted t (pos n))) [] rest)
+any_result None s c = Goes Next s nothing c
+any_result (Some t) s c = draw t.bits c (λ n rest. Goes Next (returning s (converted t (pos n))) nothing rest)
 
--- a function's body at its arguments; `inner` says what the calls in it do. Its locals are its own
+-- a function's body at its arguments; `inner` says what the calls in it do. The body runs on the caller's locals: its
+-- parameters take the arguments, each other object of its own is given a value by its declaration before it is read, and
+-- the caller's locals come back behind it
 abbrev pub body_effect : Pair → Bounds → (inner : Calls) → (function : ℕ) → Function → TStmt → Place → List ℤ → Onward
 body_effect pair b inner f fn body p args s c =
     after_body (eqb f pair.program.main) fn.result s.store.locals
-    (then_do (set_params p.line fn.first args (with_locals s (first_rows pair.program.locals)) c)
+    (then_do (set_params p.line fn.first args s c)
     (after (record { pair = pair; bounds = b; here = f }) inner body.place body.node))
 
 -- the `recursion` property of a function
@@ -184,7 +186,7 @@ entered_body pair b true inner f fn (Some body) p args s c = body_effect pair b 
 entered_body pair b false inner f fn (Some body) p args s c = broken (recursion_prop pair.program fn) c
 
 abbrev pub entered_function : Pair → Bounds → (may_enter : Function → Bool) → (inner : Calls) → (function : ℕ) → Option Function → Place → List ℤ → Onward
-entered_function pair b may_enter inner f None p args s c = Goes Next s [] c
+entered_function pair b may_enter inner f None p args s c = Goes Next s nothing c
 entered_function pair b may_enter inner f (Some fn) p args s c = entered_body pair b (may_enter fn) inner f fn fn.body p args s c
 
 -- fewer activations of a function stand than its limit

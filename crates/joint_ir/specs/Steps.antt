@@ -28,7 +28,7 @@ use Rattle.joint_ir.specs.Types.{int, converted}
 use Rattle.joint_ir.specs.Values.{Answer, Value, Rows, value_of, binary_value}
 use Rattle.joint_ir.specs.States.{Store, View, JointState, rows_of, put}
 use Rattle.joint_ir.specs.Views.{widths_of, site_widths, settled_wires, next_registers, filled, members_of, driven, changed}
-use Rattle.joint_ir.specs.Effects.{Effect, Goes, Stops, Next, Returning, Onward, then_do, broken, check_then, with_value, with_values, draw, draw_all}
+use Rattle.joint_ir.specs.Effects.{Effect, nothing, seen, Goes, Stops, Next, Returning, Onward, then_do, broken, check_then, with_value, with_values, draw, draw_all}
 
 -- what a run is of, and the function whose body runs
 pub record Setting : Type 0 where
@@ -84,7 +84,7 @@ element_of (Some i) = i
 -- a store, which is seen with the line that it stands at
 abbrev pub store_at : (line : ℕ) → Slot → (index : Option ℕ) → ℤ → Onward
 store_at line slot index n s c =
-    Goes Next (with_store s (put s.store slot (element_of index) n)) (Stored line slot index n ∷ []) c
+    Goes Next (with_store s (put s.store slot (element_of index) n)) (seen (Stored line slot index n)) c
 
 -- what calls do, given the place of the call, the function and its arguments; the result is what was returned
 abbrev pub Calls : Type 0
@@ -148,13 +148,13 @@ update_effect k target u s c =
 
 -- the next n elements of an array x, from its i-th on, take any values
 abbrev pub free_elements : (line x : ℕ) → IntType → (n i : ℕ) → Onward
-free_elements line x t zero i s c = Goes Next s [] c
+free_elements line x t zero i s c = Goes Next s nothing c
 free_elements line x t (suc n) i s c =
     draw t.bits c (λ m rest. then_do (store_at line (Local x) (Some i) (converted t (pos m)) s rest) (free_elements line x t n (i + 1)))
 
 -- the next n elements of an array x, from its i-th on, take the values of expressions, and then 0 (C99 6.7.8p21)
 abbrev pub set_elements : Setting → (line x n i : ℕ) → List TExpr → Onward
-set_elements k line x zero i es s c = Goes Next s [] c
+set_elements k line x zero i es s c = Goes Next s nothing c
 set_elements k line x (suc n) i [] s c = then_do (store_at line (Local x) (Some i) (pos 0) s c) (set_elements k line x n (i + 1) [])
 set_elements k line x (suc n) i (e ∷ es) s c =
     with_value (value_of (rows_in k s) e) c (λ v.
@@ -163,7 +163,7 @@ set_elements k line x (suc n) i (e ∷ es) s c =
 abbrev pub declare_array : Setting → Calls → (line x : ℕ) → IntType → (length : ℕ) → TInit → Onward
 declare_array k calls line x t n Free s c = free_elements line x t n 0 s c
 declare_array k calls line x t n (Values es) s c = set_elements k line x n 0 es s c
-declare_array k calls line x t n (Called call) s c = Goes Next s [] c
+declare_array k calls line x t n (Called call) s c = Goes Next s nothing c
 
 abbrev pub declare_object : Setting → Calls → (line x : ℕ) → IntType → (length : ℕ) → TInit → Onward
 declare_object k calls line x t zero init s c = with_init k calls t init s c (store_at line (Local x) None)
@@ -171,7 +171,7 @@ declare_object k calls line x t (suc n) init s c = declare_array k calls line x 
 
 -- a declaration of an automatic variable (C99 6.8p3)
 abbrev pub declare_var : Setting → Calls → (line x : ℕ) → Option Var → TInit → Onward
-declare_var k calls line x None init s c = Goes Next s [] c
+declare_var k calls line x None init s c = Goes Next s nothing c
 declare_var k calls line x (Some var) init s c = declare_object k calls line x var.ty var.length init s c
 
 abbrev pub declare_effect : Setting → Calls → (line x : ℕ) → TInit → Onward
@@ -183,10 +183,10 @@ result_of None = None
 result_of (Some f) = f.result
 
 abbrev pub return_effect : Setting → Calls → Option TInit → Onward
-return_effect k calls None s c = Goes Returning (returning s (pos 0)) [] c
+return_effect k calls None s c = Goes Returning (returning s (pos 0)) nothing c
 return_effect k calls (Some init) s c =
     with_init k calls (type_or_int (result_of (slice_get k.pair.program.functions k.here))) init s c
-    (λ n s' rest. Goes Returning (returning s' n) [] rest)
+    (λ n s' rest. Goes Returning (returning s' n) nothing rest)
 
 -- a view whose wires have settled
 abbrev pub settled_view : FlatModule → (registers inputs unknown : List ℕ) → View
@@ -207,7 +207,7 @@ set_inputs k s c =
     let m = k.pair.module in
     draw_all (site_widths m.settle_sites) c (λ unknown rest.
     let v = settled_view m s.view.registers (driven k.pair s.store.members s.view.inputs) unknown in
-    Goes Next (at_view k.pair s s.edges v) (Driven (changed m s.view v) ∷ []) rest)
+    Goes Next (at_view k.pair s s.edges v) (seen (Driven (changed m s.view v))) rest)
 
 -- a clock edge with the inputs as they stand; then each input takes a new value, and the wires settle
 abbrev pub clock_edge : Setting → Onward
@@ -217,11 +217,11 @@ clock_edge k s c =
     draw_all (widths_of role.Input m.signals) c' (λ inputs c''.
     draw_all (site_widths m.settle_sites) c'' (λ unknown rest.
     let v = settled_view m (next_registers m s.view at_edge) inputs unknown in
-    Goes Next (at_view k.pair s (s.edges + 1) v) (Frame (s.edges + 1) (changed m s.view v) ∷ []) rest)))
+    Goes Next (at_view k.pair s (s.edges + 1) v) (seen (Frame (s.edges + 1) (changed m s.view v))) rest)))
 
 -- `next_timeframe()`: past the last edge it ends the run, or breaks its property
 abbrev pub next_frame : Setting → PropId → Onward
 next_frame k p s c =
     if nat_lt s.edges k.bounds.frames then clock_edge k s c
     else if k.bounds.check_bound then broken p c
-    else Stops OutOfFrames [] c
+    else Stops OutOfFrames nothing c

@@ -144,7 +144,7 @@ FitsBinary p Ge t u v d prop = FitsComparison t u v d prop
 
 -- a node of a type
 abbrev pub FitsNode : Scope → IntType → TNode → Type 0
-FitsNode c t (Const n) = IsType t × InRange t n
+FitsNode c t (Const n) = IsPromoted t × InRange t n
 FitsNode c t (Read slot) = IsObject c slot false × (t ≡ slot_type c.program slot)
 FitsNode c t (Index' slot _ (more_of-TExpr u q a _) prop) =
     IsObject c slot true × (t ≡ slot_type c.program slot) × IsProp c.program kind.Bounds prop × FitsNode c u a
@@ -153,7 +153,7 @@ FitsNode c t (Binary' op _ (more_of-TExpr u q a _) _ (more_of-TExpr v r b _) d p
     FitsBinary c.program op t u v d prop × FitsNode c u a × FitsNode c v b
 FitsNode c t (Logic' op _ (more_of-TExpr u q a _) _ (more_of-TExpr v r b _)) = (t ≡ int) × FitsNode c u a × FitsNode c v b
 FitsNode c t (Choose' _ (more_of-TExpr u q x _) _ (more_of-TExpr v r a _) _ (more_of-TExpr w s b _)) =
-    (v ≡ t) × (w ≡ t) × FitsNode c u x × FitsNode c v a × FitsNode c w b
+    IsPromoted t × (v ≡ t) × (w ≡ t) × FitsNode c u x × FitsNode c v a × FitsNode c w b
 FitsNode c t (Convert' _ (more_of-TExpr u q a _)) = IsType t × FitsNode c u a
 
 abbrev pub FitsExpr : Scope → TExpr → Type 0
@@ -213,7 +213,38 @@ abbrev pub right_type : IntType → Option TExpr → IntType
 right_type t None = t
 right_type t (Some e) = e.ty
 
+-- the operators of compound assignments (C99 6.5.16)
+abbrev pub is_compound : BinaryOp → Bool
+is_compound Add = true
+is_compound Sub = true
+is_compound Mul = true
+is_compound Div = true
+is_compound Rem = true
+is_compound Shl = true
+is_compound Shr = true
+is_compound And = true
+is_compound Or = true
+is_compound Xor = true
+is_compound Eq = false
+is_compound Ne = false
+is_compound Lt = false
+is_compound Le = false
+is_compound Gt = false
+is_compound Ge = false
+
+-- those of `++` and `--` (C99 6.5.2.4 and 6.5.3.1)
+abbrev pub is_step : BinaryOp → Bool
+is_step Add = true
+is_step Sub = true
+is_step _ = false
+
+-- the operator of an update, which has a right operand or none
+abbrev pub updates : BinaryOp → (right : Bool) → Bool
+updates op true = is_compound op
+updates op false = is_step op
+
 pub record FitsUpdate (c : Scope) (u : TUpdate) : Type 0 where
+  pub updates : IsTrue (updates u.op (is_some u.right))
   pub operator : FitsBinary c.program u.op u.ty u.ty (right_type u.ty u.right) u.division u.other
   pub right : FitsOption c u.right
 
@@ -249,9 +280,6 @@ abbrev pub is_declare : SNode → Bool
 is_declare (Declare x init) = true
 is_declare _ = false
 
-abbrev pub is_head : SNode → Bool
-is_head a = if is_declare a then true else is_simple a
-
 -- the locals that are declared behind a statement of a list
 abbrev pub declared_behind : SNode → List ℕ → List ℕ
 declared_behind (Declare x init) xs = x ∷ xs
@@ -261,9 +289,28 @@ abbrev pub behind_row : {m : _} → Row_of-TStmt m → List ℕ → List ℕ
 behind_row end_of-TStmt xs = xs
 behind_row (more_of-TStmt p a rest) xs = behind_row rest (declared_behind a xs)
 
-abbrev pub all_heads : {m : _} → Row_of-TStmt m → Bool
-all_heads end_of-TStmt = true
-all_heads (more_of-TStmt p a rest) = is_head a && all_heads rest
+abbrev pub all_declare : {m : _} → Row_of-TStmt m → Bool
+all_declare end_of-TStmt = true
+all_declare (more_of-TStmt p a rest) = is_declare a && all_declare rest
+
+-- the first part of a `for`: nothing, declarations, or one simple statement (C99 6.8.5.3)
+abbrev pub is_first_part : {m : _} → Row_of-TStmt m → Bool
+is_first_part end_of-TStmt = true
+is_first_part (more_of-TStmt p a end_of-TStmt) = if is_declare a then true else is_simple a
+is_first_part (more_of-TStmt p a (more_of-TStmt q b rest)) = is_declare a && is_declare b && all_declare rest
+
+abbrev pub is_no_row : {m : _} → Row_of-TStmt m → Bool
+is_no_row end_of-TStmt = true
+is_no_row (more_of-TStmt p a rest) = false
+
+abbrev pub is_left_out : Held-SNode-If-2 → Bool
+is_left_out None' = true
+is_left_out (Some' _ row) = false
+
+-- a loop that tests first is a `while` or a `for`; a `do` has a condition, and no first and no last part (C99 6.8.5)
+abbrev pub is_loop : {m : _} → (tests_first : Bool) → Row_of-TStmt m → Option TExpr → Held-SNode-If-2 → Bool
+is_loop true heads cond step = is_first_part heads
+is_loop false heads cond step = is_no_row heads && is_some cond && is_left_out step
 
 -- labels of a switch over a type: values of the type
 abbrev pub FitsLabel : IntType → Label → Type 0
@@ -321,7 +368,7 @@ abbrev mutual
   pub FitsLoop : Scope → TLoop → Type 0
   FitsLoop c (TLoop' tests_first _ heads cond step _ (more_of-TStmt p body _) prop) =
       let inner = in_a_loop (with_scope_locals c (behind_row heads c.locals)) in
-      FitsRow c heads × IsTrue (all_heads heads) × FitsOption inner cond × FitsStep inner step × FitsStmt inner body × IsProp c.program kind.Unwind prop
+      FitsRow c heads × IsTrue (is_loop tests_first heads cond step) × FitsOption inner cond × FitsStep inner step × FitsStmt inner body × IsProp c.program kind.Unwind prop
 
   pub FitsGroups : {m : _} → Scope → IntType → Row_of-Group m → Type 0
   FitsGroups c t end_of-Group = Unit {0}
@@ -372,6 +419,11 @@ abbrev pub places_from : (first n : ℕ) → List ℕ
 places_from first zero = []
 places_from first (suc n) = first ∷ places_from (suc first) n
 
+-- the variables that a body declares stand in `locals` behind its function's parameters, one after another, in text order
+abbrev pub AreTogether : Function → TStmt → Type 0
+AreTogether fn body =
+    let own = declared_in body.node in own ≡ places_from (fn.first + fn.params) (length own)
+
 abbrev pub declared_by_body : Function → Option TStmt → List ℕ
 declared_by_body fn None = []
 declared_by_body fn (Some body) = places_from fn.first fn.params ++ declared_in body.node
@@ -400,7 +452,7 @@ abbrev pub FitsBody : CProgram → ℕ → Function → Option TStmt → Type 0
 FitsBody p f fn None = (fn.first ≡ 0) × (fn.params ≡ 0)
 FitsBody p f fn (Some body) =
     (fn.first + fn.params ≤ length p.locals) × ArePlain p fn.first fn.params × FitsStmt (scope_of p f fn) body.node
-    × (recursions p fn.name ≡ 1) × (bodies p fn.name ≡ 1)
+    × AreTogether fn body × (recursions p fn.name ≡ 1) × (bodies p fn.name ≡ 1)
 
 pub record FitsFunction (p : CProgram) (f : ℕ) (fn : Function) : Type 0 where
   pub result : IfSome fn.result IsType
