@@ -31,7 +31,7 @@ program_fits n le = record {
             (
               (refl, record { type = Single true; wide = omega arith }, refl, refl, refl),
               (Single true, (record { visible = (_, refl, refl); shape = refl }, refl)),
-              (Single true, in_int n le),
+              (int_promoted, in_int n le),
             ),
             (_, refl, refl),
           ),

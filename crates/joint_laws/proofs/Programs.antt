@@ -29,7 +29,7 @@ pub idle_fits : (m : FlatModule) → FitsModule m → IsWellFormed (idle m)
 unfolding hidden-the_row-TStmt-0 hidden-the_row-TStmt-1 hidden-the_row-Group-2 hidden-the_row-TExpr-0 hidden
 idle_fits m fits = record {
   program = program_fits (idle m).program (λ f fn is. among_one (FitsFunction (idle m).program) _ fn f is
-      (record { result = Single true; body = (omega arith, all_none _, tt, refl, refl) }))
+      (record { result = Single true; body = (omega arith, all_none _, tt, refl, refl, refl) }))
       (all_none _) (all_none _) (all_none _) (λ x lt. absurd (omega arith)) (_, refl, refl, refl) (omega arith);
   module_ = fits;
   binding = record {
@@ -43,7 +43,7 @@ pub two_edges_fits : (n : ℕ) → n ≤ 2147483647 → IsWellFormed (two_edges_
 unfolding hidden-the_row-TStmt-0 hidden-the_row-TStmt-1 hidden-the_row-Group-2 hidden-the_row-TExpr-0 hidden
 two_edges_fits n le = record {
   program = program_fits (two_edges_to n).program (λ f fn is. among_one (FitsFunction (two_edges_to n).program) _ fn f is
-      (record { result = Single true; body = (omega arith, all_none _, ((_, refl, refl), ((_, refl, refl), ((((refl, int_promoted, refl, refl, refl), (Single true, (record { visible = (_, refl, refl); shape = refl }, refl)), (Single true, in_int n le)), (_, refl, refl)), tt))), refl, refl) }))
+      (record { result = Single true; body = (omega arith, all_none _, ((_, refl, refl), ((_, refl, refl), ((((refl, int_promoted, refl, refl, refl), (Single true, (record { visible = (_, refl, refl); shape = refl }, refl)), (int_promoted, in_int n le)), (_, refl, refl)), tt))), refl, refl, refl) }))
       (all_none _) (all_none _) (all_one FitsMember _ (a_member_fits 0)) (λ x lt. absurd (omega arith)) (_, refl, refl, refl) (omega arith);
   module_ = counter_fits;
   binding = record {
@@ -57,7 +57,7 @@ pub summing_fits : IsWellFormed summing
 unfolding hidden-the_row-TStmt-0 hidden-the_row-TStmt-1 hidden-the_row-Group-2 hidden-the_row-TExpr-0 hidden
 summing_fits = record {
   program = program_fits summing.program (λ f fn is. among_one (FitsFunction summing.program) _ fn f is
-      (record { result = Single true; body = (omega arith, all_none _, ((_, refl, (_, refl, (refl, (Single true, in_int 0 (omega arith))))), ((((_, refl, (_, refl, (refl, (Single true, in_int 0 (omega arith))))), tt), refl, ((refl, int_promoted, refl, refl, refl), (record { visible = (omega arith, (0, omega arith, refl)); shape = refl }, refl), (Single true, in_int 3 (omega arith))), (refl, (record { object = record { visible = (omega arith, (0, omega arith, refl)); shape = refl }; stored = refl; index = refl }, record { operator = (int_promoted, refl, refl, refl, (_, refl, refl)); right = tt })), (record { object = record { visible = (omega arith, (1, omega arith, refl)); shape = refl }; stored = refl; index = refl }, (_, refl, (refl, ((int_promoted, refl, refl, refl, (_, refl, refl)), (record { visible = (omega arith, (1, omega arith, refl)); shape = refl }, refl), (record { visible = (omega arith, (0, omega arith, refl)); shape = refl }, refl))))), (_, refl, refl)), ((((refl, int_promoted, refl, refl, refl), (record { visible = (omega arith, (0, omega arith, refl)); shape = refl }, refl), (Single true, in_int 3 (omega arith))), (_, refl, refl)), tt))), refl, refl) }))
+      (record { result = Single true; body = (omega arith, all_none _, ((_, refl, (_, refl, (refl, (int_promoted, in_int 0 (omega arith))))), ((((_, refl, (_, refl, (refl, (int_promoted, in_int 0 (omega arith))))), tt), refl, ((refl, int_promoted, refl, refl, refl), (record { visible = (omega arith, (0, omega arith, refl)); shape = refl }, refl), (int_promoted, in_int 3 (omega arith))), (refl, (record { object = record { visible = (omega arith, (0, omega arith, refl)); shape = refl }; stored = refl; index = refl }, record { operator = (int_promoted, refl, refl, refl, (_, refl, refl)); right = tt })), (record { object = record { visible = (omega arith, (1, omega arith, refl)); shape = refl }; stored = refl; index = refl }, (_, refl, (refl, ((int_promoted, refl, refl, refl, (_, refl, refl)), (record { visible = (omega arith, (1, omega arith, refl)); shape = refl }, refl), (record { visible = (omega arith, (0, omega arith, refl)); shape = refl }, refl))))), (_, refl, refl)), ((((refl, int_promoted, refl, refl, refl), (record { visible = (omega arith, (0, omega arith, refl)); shape = refl }, refl), (int_promoted, in_int 3 (omega arith))), (_, refl, refl)), tt))), refl, refl, refl) }))
       (all_none _) (all_two FitsVar _ _ (var_fits int 0 (Single true)) (var_fits int 0 (Single true))) (all_none _) (below_two (λ x. count_by (eqb x) (declared_by summing.program.functions) ≡ 1) refl refl) (_, refl, refl, refl) (omega arith);
   module_ = counter_fits;
   binding = record {
@@ -71,7 +71,7 @@ pub endless_fits : IsWellFormed endless
 unfolding hidden-the_row-TStmt-0 hidden-the_row-TStmt-1 hidden-the_row-Group-2 hidden-the_row-TExpr-0 hidden
 endless_fits = record {
   program = program_fits endless.program (λ f fn is. among_one (FitsFunction endless.program) _ fn f is
-      (record { result = Single true; body = (omega arith, all_none _, ((tt, refl, (Single true, in_int 1 (omega arith)), tt, (_, refl, refl), (_, refl, refl)), tt), refl, refl) }))
+      (record { result = Single true; body = (omega arith, all_none _, ((tt, refl, (int_promoted, in_int 1 (omega arith)), tt, (_, refl, refl), (_, refl, refl)), tt), refl, refl, refl) }))
       (all_none _) (all_none _) (all_one FitsMember _ (a_member_fits 0)) (λ x lt. absurd (omega arith)) (_, refl, refl, refl) (omega arith);
   module_ = counter_fits;
   binding = record {
@@ -85,7 +85,7 @@ pub disabling_fits : IsWellFormed disabling
 unfolding hidden-the_row-TStmt-0 hidden-the_row-TStmt-1 hidden-the_row-Group-2 hidden-the_row-TExpr-0 hidden
 disabling_fits = record {
   program = program_fits disabling.program (λ f fn is. among_one (FitsFunction disabling.program) _ fn f is
-      (record { result = Single true; body = (omega arith, all_none _, ((record { object = record { visible = (_, refl, refl); shape = refl }; stored = refl; index = refl }, (_, refl, (refl, (Byte false, record { low = omega (arith, ints); high = omega (arith, ints) })))), (tt, ((_, refl, refl), ((((refl, int_promoted, refl, refl, refl), (Single true, (record { visible = (_, refl, refl); shape = refl }, refl)), (Single true, in_int 0 (omega arith))), (_, refl, refl)), tt)))), refl, refl) }))
+      (record { result = Single true; body = (omega arith, all_none _, ((record { object = record { visible = (_, refl, refl); shape = refl }; stored = refl; index = refl }, (_, refl, (refl, (Byte false, record { low = omega (arith, ints); high = omega (arith, ints) })))), (tt, ((_, refl, refl), ((((refl, int_promoted, refl, refl, refl), (Single true, (record { visible = (_, refl, refl); shape = refl }, refl)), (int_promoted, in_int 0 (omega arith))), (_, refl, refl)), tt)))), refl, refl, refl) }))
       (all_none _) (all_none _) (all_two FitsMember _ _ (a_member_fits 0) (a_member_fits 0)) (λ x lt. absurd (omega arith)) (_, refl, refl, refl) (omega arith);
   module_ = enabled_fits;
   binding = record {
@@ -99,7 +99,7 @@ pub not_disabling_fits : IsWellFormed not_disabling
 unfolding hidden-the_row-TStmt-0 hidden-the_row-TStmt-1 hidden-the_row-Group-2 hidden-the_row-TExpr-0 hidden
 not_disabling_fits = record {
   program = program_fits not_disabling.program (λ f fn is. among_one (FitsFunction not_disabling.program) _ fn f is
-      (record { result = Single true; body = (omega arith, all_none _, ((record { object = record { visible = (_, refl, refl); shape = refl }; stored = refl; index = refl }, (_, refl, (refl, (Byte false, record { low = omega (arith, ints); high = omega (arith, ints) })))), ((_, refl, refl), ((((refl, int_promoted, refl, refl, refl), (Single true, (record { visible = (_, refl, refl); shape = refl }, refl)), (Single true, in_int 0 (omega arith))), (_, refl, refl)), tt))), refl, refl) }))
+      (record { result = Single true; body = (omega arith, all_none _, ((record { object = record { visible = (_, refl, refl); shape = refl }; stored = refl; index = refl }, (_, refl, (refl, (Byte false, record { low = omega (arith, ints); high = omega (arith, ints) })))), ((_, refl, refl), ((((refl, int_promoted, refl, refl, refl), (Single true, (record { visible = (_, refl, refl); shape = refl }, refl)), (int_promoted, in_int 0 (omega arith))), (_, refl, refl)), tt))), refl, refl, refl) }))
       (all_none _) (all_none _) (all_two FitsMember _ _ (a_member_fits 0) (a_member_fits 0)) (λ x lt. absurd (omega arith)) (_, refl, refl, refl) (omega arith);
   module_ = enabled_fits;
   binding = record {
@@ -113,7 +113,7 @@ pub adding_one_fits : IsWellFormed adding_one
 unfolding hidden-the_row-TStmt-0 hidden-the_row-TStmt-1 hidden-the_row-Group-2 hidden-the_row-TExpr-0 hidden
 adding_one_fits = record {
   program = program_fits adding_one.program (λ f fn is. among_two (FitsFunction adding_one.program) _ _ fn f is
-      (record { result = Single true; body = (omega arith, all_none _, ((_, refl, ((_, refl, (refl, tt, inr refl)), (_, refl, refl))), ((record { object = record { visible = (omega arith, (0, omega arith, refl)); shape = refl }; stored = refl; index = refl }, (_, refl, (refl, ((int_promoted, refl, refl, refl, (_, refl, refl)), (record { visible = (omega arith, (0, omega arith, refl)); shape = refl }, refl), (Single true, in_int 1 (omega arith)))))), tt)), refl, refl) })
+      (record { result = Single true; body = (omega arith, all_none _, ((_, refl, ((_, refl, (refl, tt, inr refl)), (_, refl, refl))), ((record { object = record { visible = (omega arith, (0, omega arith, refl)); shape = refl }; stored = refl; index = refl }, (_, refl, (refl, ((int_promoted, refl, refl, refl, (_, refl, refl)), (record { visible = (omega arith, (0, omega arith, refl)); shape = refl }, refl), (int_promoted, in_int 1 (omega arith)))))), tt)), refl, refl, refl) })
       (nondet_fits _ 1 int (Single true)))
       (all_none _) (all_one FitsVar _ (var_fits int 0 (Single true))) (all_none _) (below_one (λ x. count_by (eqb x) (declared_by adding_one.program.functions) ≡ 1) refl) (_, refl, refl, refl) (omega arith);
   module_ = counter_fits;
@@ -128,7 +128,7 @@ pub adding_one_unsigned_fits : IsWellFormed adding_one_unsigned
 unfolding hidden-the_row-TStmt-0 hidden-the_row-TStmt-1 hidden-the_row-Group-2 hidden-the_row-TExpr-0 hidden
 adding_one_unsigned_fits = record {
   program = program_fits adding_one_unsigned.program (λ f fn is. among_two (FitsFunction adding_one_unsigned.program) _ _ fn f is
-      (record { result = Single true; body = (omega arith, all_none _, ((_, refl, ((_, refl, (refl, tt, inr refl)), (_, refl, refl))), ((record { object = record { visible = (omega arith, (0, omega arith, refl)); shape = refl }; stored = refl; index = refl }, (_, refl, (refl, ((record { type = Single false; wide = omega arith }, refl, refl, refl, refl), (record { visible = (omega arith, (0, omega arith, refl)); shape = refl }, refl), (Single false, record { low = omega (arith, ints); high = omega (arith, ints) }))))), tt)), refl, refl) })
+      (record { result = Single true; body = (omega arith, all_none _, ((_, refl, ((_, refl, (refl, tt, inr refl)), (_, refl, refl))), ((record { object = record { visible = (omega arith, (0, omega arith, refl)); shape = refl }; stored = refl; index = refl }, (_, refl, (refl, ((record { type = Single false; wide = omega arith }, refl, refl, refl, refl), (record { visible = (omega arith, (0, omega arith, refl)); shape = refl }, refl), (record { type = Single false; wide = omega arith }, record { low = omega (arith, ints); high = omega (arith, ints) }))))), tt)), refl, refl, refl) })
       (nondet_fits _ 1 unsigned_int (Single false)))
       (all_none _) (all_one FitsVar _ (var_fits unsigned_int 0 (Single false))) (all_none _) (below_one (λ x. count_by (eqb x) (declared_by adding_one_unsigned.program.functions) ≡ 1) refl) (_, refl, refl, refl) (omega arith);
   module_ = counter_fits;
@@ -143,7 +143,7 @@ pub shifting_fits : IsWellFormed shifting
 unfolding hidden-the_row-TStmt-0 hidden-the_row-TStmt-1 hidden-the_row-Group-2 hidden-the_row-TExpr-0 hidden
 shifting_fits = record {
   program = program_fits shifting.program (λ f fn is. among_one (FitsFunction shifting.program) _ fn f is
-      (record { result = Single true; body = (omega arith, all_none _, ((_, refl, (_, refl, (refl, (Single true, in_int 32 (omega arith))))), ((_, refl, (_, refl, (refl, ((int_promoted, int_promoted, refl, refl, (_, refl, refl)), (Single true, in_int 1 (omega arith)), (record { visible = (omega arith, (0, omega arith, refl)); shape = refl }, refl))))), tt)), refl, refl) }))
+      (record { result = Single true; body = (omega arith, all_none _, ((_, refl, (_, refl, (refl, (int_promoted, in_int 32 (omega arith))))), ((_, refl, (_, refl, (refl, ((int_promoted, int_promoted, refl, refl, (_, refl, refl)), (int_promoted, in_int 1 (omega arith)), (record { visible = (omega arith, (0, omega arith, refl)); shape = refl }, refl))))), tt)), refl, refl, refl) }))
       (all_none _) (all_two FitsVar _ _ (var_fits int 0 (Single true)) (var_fits int 0 (Single true))) (all_none _) (below_two (λ x. count_by (eqb x) (declared_by shifting.program.functions) ≡ 1) refl refl) (_, refl, refl, refl) (omega arith);
   module_ = counter_fits;
   binding = record {
@@ -157,7 +157,7 @@ pub dividing_fits : IsWellFormed dividing
 unfolding hidden-the_row-TStmt-0 hidden-the_row-TStmt-1 hidden-the_row-Group-2 hidden-the_row-TExpr-0 hidden
 dividing_fits = record {
   program = program_fits dividing.program (λ f fn is. among_one (FitsFunction dividing.program) _ fn f is
-      (record { result = Single true; body = (omega arith, all_none _, ((_, refl, (_, refl, (refl, (Single true, in_int 0 (omega arith))))), ((_, refl, (_, refl, (refl, ((int_promoted, refl, refl, (_, refl, refl), (_, refl, refl)), (Single true, in_int 1 (omega arith)), (record { visible = (omega arith, (0, omega arith, refl)); shape = refl }, refl))))), tt)), refl, refl) }))
+      (record { result = Single true; body = (omega arith, all_none _, ((_, refl, (_, refl, (refl, (int_promoted, in_int 0 (omega arith))))), ((_, refl, (_, refl, (refl, ((int_promoted, refl, refl, (_, refl, refl), (_, refl, refl)), (int_promoted, in_int 1 (omega arith)), (record { visible = (omega arith, (0, omega arith, refl)); shape = refl }, refl))))), tt)), refl, refl, refl) }))
       (all_none _) (all_two FitsVar _ _ (var_fits int 0 (Single true)) (var_fits int 0 (Single true))) (all_none _) (below_two (λ x. count_by (eqb x) (declared_by dividing.program.functions) ≡ 1) refl refl) (_, refl, refl, refl) (omega arith);
   module_ = counter_fits;
   binding = record {
@@ -171,7 +171,7 @@ pub least_divided_fits : IsWellFormed least_divided
 unfolding hidden-the_row-TStmt-0 hidden-the_row-TStmt-1 hidden-the_row-Group-2 hidden-the_row-TExpr-0 hidden
 least_divided_fits = record {
   program = program_fits least_divided.program (λ f fn is. among_one (FitsFunction least_divided.program) _ fn f is
-      (record { result = Single true; body = (omega arith, all_none _, ((_, refl, (_, refl, (refl, ((int_promoted, refl, refl, refl, (_, refl, refl)), ((int_promoted, refl, (_, refl, refl)), (Single true, in_int 2147483647 (omega arith))), (Single true, in_int 1 (omega arith)))))), ((_, refl, (_, refl, (refl, ((int_promoted, refl, refl, (_, refl, refl), (_, refl, refl)), (record { visible = (omega arith, (0, omega arith, refl)); shape = refl }, refl), ((int_promoted, refl, (_, refl, refl)), (Single true, in_int 1 (omega arith))))))), tt)), refl, refl) }))
+      (record { result = Single true; body = (omega arith, all_none _, ((_, refl, (_, refl, (refl, ((int_promoted, refl, refl, refl, (_, refl, refl)), ((int_promoted, refl, (_, refl, refl)), (int_promoted, in_int 2147483647 (omega arith))), (int_promoted, in_int 1 (omega arith)))))), ((_, refl, (_, refl, (refl, ((int_promoted, refl, refl, (_, refl, refl), (_, refl, refl)), (record { visible = (omega arith, (0, omega arith, refl)); shape = refl }, refl), ((int_promoted, refl, (_, refl, refl)), (int_promoted, in_int 1 (omega arith))))))), tt)), refl, refl, refl) }))
       (all_none _) (all_two FitsVar _ _ (var_fits int 0 (Single true)) (var_fits int 0 (Single true))) (all_none _) (below_two (λ x. count_by (eqb x) (declared_by least_divided.program.functions) ≡ 1) refl refl) (_, refl, refl, refl) (omega arith);
   module_ = counter_fits;
   binding = record {
@@ -185,7 +185,7 @@ pub past_the_end_fits : IsWellFormed past_the_end
 unfolding hidden-the_row-TStmt-0 hidden-the_row-TStmt-1 hidden-the_row-Group-2 hidden-the_row-TExpr-0 hidden
 past_the_end_fits = record {
   program = program_fits past_the_end.program (λ f fn is. among_one (FitsFunction past_the_end.program) _ fn f is
-      (record { result = Single true; body = (omega arith, all_none _, ((_, refl, tt), ((_, refl, (_, refl, (refl, (record { visible = (omega arith, (0, omega arith, refl)); shape = refl }, refl, (_, refl, refl), (Single true, in_int 4 (omega arith)))))), tt)), refl, refl) }))
+      (record { result = Single true; body = (omega arith, all_none _, ((_, refl, tt), ((_, refl, (_, refl, (refl, (record { visible = (omega arith, (0, omega arith, refl)); shape = refl }, refl, (_, refl, refl), (int_promoted, in_int 4 (omega arith)))))), tt)), refl, refl, refl) }))
       (all_none _) (all_two FitsVar _ _ (var_fits int 4 (Single true)) (var_fits int 0 (Single true))) (all_none _) (below_two (λ x. count_by (eqb x) (declared_by past_the_end.program.functions) ≡ 1) refl refl) (_, refl, refl, refl) (omega arith);
   module_ = counter_fits;
   binding = record {
@@ -199,7 +199,7 @@ pub filling_fits : IsWellFormed filling
 unfolding hidden-the_row-TStmt-0 hidden-the_row-TStmt-1 hidden-the_row-Group-2 hidden-the_row-TExpr-0 hidden
 filling_fits = record {
   program = program_fits filling.program (λ f fn is. among_one (FitsFunction filling.program) _ fn f is
-      (record { result = Single true; body = (omega arith, all_none _, ((_, refl, (omega arith, all_two (λ (e : TExpr). FitsAs (in_main filling []) int e) _ _ (refl, (Single true, in_int 4 (omega arith))) (refl, (Single true, in_int 5 (omega arith))))), ((record { object = record { visible = (omega arith, (0, omega arith, refl)); shape = refl }; stored = refl; index = ((Single true, in_int 2 (omega arith)), (_, refl, refl)) }, (_, refl, (refl, (record { visible = (omega arith, (0, omega arith, refl)); shape = refl }, refl, (_, refl, refl), (Single true, in_int 0 (omega arith)))))), tt)), refl, refl) }))
+      (record { result = Single true; body = (omega arith, all_none _, ((_, refl, (omega arith, all_two (λ (e : TExpr). FitsAs (in_main filling []) int e) _ _ (refl, (int_promoted, in_int 4 (omega arith))) (refl, (int_promoted, in_int 5 (omega arith))))), ((record { object = record { visible = (omega arith, (0, omega arith, refl)); shape = refl }; stored = refl; index = ((int_promoted, in_int 2 (omega arith)), (_, refl, refl)) }, (_, refl, (refl, (record { visible = (omega arith, (0, omega arith, refl)); shape = refl }, refl, (_, refl, refl), (int_promoted, in_int 0 (omega arith)))))), tt)), refl, refl, refl) }))
       (all_none _) (all_one FitsVar _ (var_fits int 3 (Single true))) (all_none _) (below_one (λ x. count_by (eqb x) (declared_by filling.program.functions) ≡ 1) refl) (_, refl, refl, refl) (omega arith);
   module_ = counter_fits;
   binding = record {
@@ -213,8 +213,8 @@ pub recursive_fits : IsWellFormed recursive
 unfolding hidden-the_row-TStmt-0 hidden-the_row-TStmt-1 hidden-the_row-Group-2 hidden-the_row-TExpr-0 hidden
 recursive_fits = record {
   program = program_fits recursive.program (λ f fn is. among_two (FitsFunction recursive.program) _ _ fn f is
-      (record { result = Single true; body = (omega arith, all_none _, ((_, refl, ((_, refl, (refl, ((refl, (Single true, in_int 1 (omega arith))), tt), inl refl)), (_, refl, refl))), tt), refl, refl) })
-      (record { result = Single true; body = (omega arith, all_one (λ x. slot_length recursive.program (Local x) ≡ 0) _ refl, ((_, refl, ((_, refl, (refl, ((refl, (record { visible = (omega arith, (0, omega arith, refl)); shape = refl }, refl)), tt), inl refl)), (_, refl, refl))), ((_, refl, (_, refl, (refl, (record { visible = (omega arith, (0, omega arith, refl)); shape = refl }, refl)))), tt)), refl, refl) }))
+      (record { result = Single true; body = (omega arith, all_none _, ((_, refl, ((_, refl, (refl, ((refl, (int_promoted, in_int 1 (omega arith))), tt), inl refl)), (_, refl, refl))), tt), refl, refl, refl) })
+      (record { result = Single true; body = (omega arith, all_one (λ x. slot_length recursive.program (Local x) ≡ 0) _ refl, ((_, refl, ((_, refl, (refl, ((refl, (record { visible = (omega arith, (0, omega arith, refl)); shape = refl }, refl)), tt), inl refl)), (_, refl, refl))), ((_, refl, (_, refl, (refl, (record { visible = (omega arith, (0, omega arith, refl)); shape = refl }, refl)))), tt)), refl, refl, refl) }))
       (all_none _) (all_three FitsVar _ _ _ (var_fits int 0 (Single true)) (var_fits int 0 (Single true)) (var_fits int 0 (Single true))) (all_none _) (below_three (λ x. count_by (eqb x) (declared_by recursive.program.functions) ≡ 1) refl refl refl) (_, refl, refl, refl) (omega arith);
   module_ = counter_fits;
   binding = record {
@@ -228,8 +228,8 @@ pub without_value_fits : IsWellFormed without_value
 unfolding hidden-the_row-TStmt-0 hidden-the_row-TStmt-1 hidden-the_row-Group-2 hidden-the_row-TExpr-0 hidden
 without_value_fits = record {
   program = program_fits without_value.program (λ f fn is. among_two (FitsFunction without_value.program) _ _ fn f is
-      (record { result = Single true; body = (omega arith, all_none _, ((_, refl, ((_, refl, (refl, tt, inl refl)), (_, refl, refl))), tt), refl, refl) })
-      (record { result = Single true; body = (omega arith, all_none _, tt, refl, refl) }))
+      (record { result = Single true; body = (omega arith, all_none _, ((_, refl, ((_, refl, (refl, tt, inl refl)), (_, refl, refl))), tt), refl, refl, refl) })
+      (record { result = Single true; body = (omega arith, all_none _, tt, refl, refl, refl) }))
       (all_none _) (all_one FitsVar _ (var_fits int 0 (Single true))) (all_none _) (below_one (λ x. count_by (eqb x) (declared_by without_value.program.functions) ≡ 1) refl) (_, refl, refl, refl) (omega arith);
   module_ = counter_fits;
   binding = record {
@@ -243,7 +243,7 @@ pub assuming_fits : IsWellFormed assuming
 unfolding hidden-the_row-TStmt-0 hidden-the_row-TStmt-1 hidden-the_row-Group-2 hidden-the_row-TExpr-0 hidden
 assuming_fits = record {
   program = program_fits assuming.program (λ f fn is. among_one (FitsFunction assuming.program) _ fn f is
-      (record { result = Single true; body = (omega arith, all_none _, ((Single true, in_int 0 (omega arith)), (((Single true, in_int 0 (omega arith)), (_, refl, refl)), tt)), refl, refl) }))
+      (record { result = Single true; body = (omega arith, all_none _, ((int_promoted, in_int 0 (omega arith)), (((int_promoted, in_int 0 (omega arith)), (_, refl, refl)), tt)), refl, refl, refl) }))
       (all_none _) (all_none _) (all_none _) (λ x lt. absurd (omega arith)) (_, refl, refl, refl) (omega arith);
   module_ = counter_fits;
   binding = record {
@@ -257,7 +257,7 @@ pub falling_through_fits : IsWellFormed falling_through
 unfolding hidden-the_row-TStmt-0 hidden-the_row-TStmt-1 hidden-the_row-Group-2 hidden-the_row-TExpr-0 hidden
 falling_through_fits = record {
   program = program_fits falling_through.program (λ f fn is. among_one (FitsFunction falling_through.program) _ fn f is
-      (record { result = Single true; body = (omega arith, all_none _, ((_, refl, (_, refl, (refl, (Single true, in_int 1 (omega arith))))), (((record { visible = (omega arith, (0, omega arith, refl)); shape = refl }, refl), int_promoted, ((omega arith, all_one (FitsLabel int) _ (in_int 0 (omega arith)), ((record { object = record { visible = (omega arith, (0, omega arith, refl)); shape = refl }; stored = refl; index = refl }, (_, refl, (refl, (Single true, in_int 10 (omega arith))))), tt)), ((omega arith, all_one (FitsLabel int) _ (in_int 1 (omega arith)), ((record { object = record { visible = (omega arith, (0, omega arith, refl)); shape = refl }; stored = refl; index = refl }, (_, refl, (refl, (Single true, in_int 11 (omega arith))))), tt)), ((omega arith, all_one (FitsLabel int) _ (in_int 2 (omega arith)), ((record { object = record { visible = (omega arith, (0, omega arith, refl)); shape = refl }; stored = refl; index = refl }, (_, refl, (refl, (Single true, in_int 12 (omega arith))))), (refl, tt))), ((omega arith, all_one (FitsLabel int) _ tt, ((record { object = record { visible = (omega arith, (0, omega arith, refl)); shape = refl }; stored = refl; index = refl }, (_, refl, (refl, (Single true, in_int 13 (omega arith))))), tt)), tt)))), all_four (λ a. count_by (same_label a) (Case (pos 0) ∷ Case (pos 1) ∷ Case (pos 2) ∷ Default ∷ []) ≡ 1) _ _ _ _ refl refl refl refl), tt)), refl, refl) }))
+      (record { result = Single true; body = (omega arith, all_none _, ((_, refl, (_, refl, (refl, (int_promoted, in_int 1 (omega arith))))), (((record { visible = (omega arith, (0, omega arith, refl)); shape = refl }, refl), int_promoted, ((omega arith, all_one (FitsLabel int) _ (in_int 0 (omega arith)), ((record { object = record { visible = (omega arith, (0, omega arith, refl)); shape = refl }; stored = refl; index = refl }, (_, refl, (refl, (int_promoted, in_int 10 (omega arith))))), tt)), ((omega arith, all_one (FitsLabel int) _ (in_int 1 (omega arith)), ((record { object = record { visible = (omega arith, (0, omega arith, refl)); shape = refl }; stored = refl; index = refl }, (_, refl, (refl, (int_promoted, in_int 11 (omega arith))))), tt)), ((omega arith, all_one (FitsLabel int) _ (in_int 2 (omega arith)), ((record { object = record { visible = (omega arith, (0, omega arith, refl)); shape = refl }; stored = refl; index = refl }, (_, refl, (refl, (int_promoted, in_int 12 (omega arith))))), (refl, tt))), ((omega arith, all_one (FitsLabel int) _ tt, ((record { object = record { visible = (omega arith, (0, omega arith, refl)); shape = refl }; stored = refl; index = refl }, (_, refl, (refl, (int_promoted, in_int 13 (omega arith))))), tt)), tt)))), all_four (λ a. count_by (same_label a) (Case (pos 0) ∷ Case (pos 1) ∷ Case (pos 2) ∷ Default ∷ []) ≡ 1) _ _ _ _ refl refl refl refl), tt)), refl, refl, refl) }))
       (all_none _) (all_one FitsVar _ (var_fits int 0 (Single true))) (all_none _) (below_one (λ x. count_by (eqb x) (declared_by falling_through.program.functions) ≡ 1) refl) (_, refl, refl, refl) (omega arith);
   module_ = counter_fits;
   binding = record {
@@ -271,7 +271,7 @@ pub memory_reader_fits : IsWellFormed reading_past_a_memory
 unfolding hidden-the_row-TStmt-0 hidden-the_row-TStmt-1 hidden-the_row-Group-2 hidden-the_row-TExpr-0 hidden
 memory_reader_fits = record {
   program = program_fits reading_past_a_memory.program (λ f fn is. among_one (FitsFunction reading_past_a_memory.program) _ fn f is
-      (record { result = Single true; body = (omega arith, all_none _, ((record { object = record { visible = (_, refl, refl); shape = refl }; stored = refl; index = refl }, (_, refl, (refl, (Byte false, record { low = omega (arith, ints); high = omega (arith, ints) })))), (tt, ((((refl, int_promoted, refl, refl, refl), (Single true, (record { visible = (_, refl, refl); shape = refl }, refl, (_, refl, refl), (Single true, in_int 1 (omega arith)))), (Single true, in_int 5 (omega arith))), (_, refl, refl)), ((((refl, int_promoted, refl, refl, refl), (Single true, (record { visible = (_, refl, refl); shape = refl }, refl)), (Single true, in_int 0 (omega arith))), (_, refl, refl)), tt)))), refl, refl) }))
+      (record { result = Single true; body = (omega arith, all_none _, ((record { object = record { visible = (_, refl, refl); shape = refl }; stored = refl; index = refl }, (_, refl, (refl, (Byte false, record { low = omega (arith, ints); high = omega (arith, ints) })))), (tt, ((((refl, int_promoted, refl, refl, refl), (Single true, (record { visible = (_, refl, refl); shape = refl }, refl, (_, refl, refl), (int_promoted, in_int 1 (omega arith)))), (int_promoted, in_int 5 (omega arith))), (_, refl, refl)), ((((refl, int_promoted, refl, refl, refl), (Single true, (record { visible = (_, refl, refl); shape = refl }, refl)), (int_promoted, in_int 0 (omega arith))), (_, refl, refl)), tt)))), refl, refl, refl) }))
       (all_none _) (all_none _) (all_three FitsMember _ _ _ (a_member_fits 0) (a_member_fits 0) (a_member_fits 3)) (λ x lt. absurd (omega arith)) (_, refl, refl, refl) (omega arith);
   module_ = memory_fits;
   binding = record {

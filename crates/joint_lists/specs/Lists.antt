@@ -4,24 +4,24 @@ use Rattle.std.specs.List.{position_from, list_any}
 use Rattle.joint_ir.specs.declared.stmt.Group.{Group, out-Group}
 use Rattle.joint_ir.specs.declared.stmt.Label.{Label}
 use Rattle.joint_ir.specs.declared.stmt.TStmt.{TStmt}
-use Rattle.joint_ir.specs.Effects.{Goes, Next, Onward, then_do}
+use Rattle.joint_ir.specs.Effects.{nothing, Goes, Next, Onward, then_do}
 use Rattle.joint_ir.specs.Steps.{Setting, Calls}
 use Rattle.joint_ir.specs.Statements.{after, is_case, is_default}
 use Rattle.joint_ir.specs.WellFormed.{Scope, FitsStmt, with_scope_locals, declared_behind}
 
 -- statements one after another
 abbrev pub after_items : Setting → Calls → List TStmt → Onward
-after_items k calls [] s c = Goes Next s [] c
+after_items k calls [] s c = Goes Next s nothing c
 after_items k calls (x ∷ rest) s c = then_do (after k calls x.place x.node s c) (after_items k calls rest)
 
 -- a statement that may be left out
 abbrev pub after_option : Setting → Calls → Option TStmt → Onward
-after_option k calls None s c = Goes Next s [] c
+after_option k calls None s c = Goes Next s nothing c
 after_option k calls (Some x) s c = after k calls x.place x.node s c
 
 -- the groups of a switch, one after another
 abbrev pub after_cases : Setting → Calls → List Group → Onward
-after_cases k calls [] s c = Goes Next s [] c
+after_cases k calls [] s c = Goes Next s nothing c
 after_cases k calls (g ∷ rest) s c = then_do (after_items k calls (out-Group g).body s c) (after_cases k calls rest)
 
 -- the first group with a label that passes

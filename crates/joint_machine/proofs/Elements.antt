@@ -16,7 +16,8 @@ use Rattle.joint_ir.specs.Steps.{Setting, rows_in, store_at, free_elements, set_
 use Rattle.joint_ir.specs.Statements.{set_params}
 use Rattle.joint_view.specs.declared.halt.Halt.{Halt}
 use Rattle.joint_machine.specs.declared.machine.Machine.{Machine}
-use Rattle.joint_machine.specs.Moments.{state_of, left_of, Halts, from_here, AreParams}
+use Rattle.joint_view.specs.Halts.{unmeasured}
+use Rattle.joint_machine.specs.Moments.{state_of, left_of, told_of, Halts, from_here, AreParams}
 use Rattle.joint_machine.proofs.Flow.{then_passes, then_halts, nothing_done}
 
 count_more : (n i : ℕ) → i < n → n - i ≡ suc (n - (i + 1))
@@ -37,7 +38,7 @@ free_drawn old mid line x t count i v lt found =
 
 pub free_step : (old mid new : Machine) (line x : ℕ) (t : IntType) (count i : ℕ) (v : ℤ) → i < count →
     ((go : ℤ → Onward) → from_here old (λ s c. draw t.bits c (λ n rest. go (converted t (pos n)) s rest)) ≡ from_here mid (go v)) →
-    from_here mid (store_at line (Local x) (Some i) v) ≡ Goes Next (state_of new) new.events.items (left_of new) →
+    from_here mid (store_at line (Local x) (Some i) v) ≡ Goes Next (state_of new) (told_of new) (left_of new) →
     from_here old (free_elements line x t (count - i) i) ≡ from_here new (free_elements line x t (count - (i + 1)) (i + 1))
 free_step old mid new line x t count i v lt found stored =
     free_drawn old mid line x t count i v lt found
@@ -58,7 +59,7 @@ free_unstored h old mid new line x t count i v lt found stored =
     (then_halts h mid new (store_at line (Local x) (Some i) v) (free_elements line x t (count - (i + 1)) (i + 1)) stored)
 
 pub free_done : (m : Machine) (line x : ℕ) (t : IntType) (count i : ℕ) → count ≤ i →
-    from_here m (free_elements line x t (count - i) i) ≡ Goes Next (state_of m) m.events.items (left_of m)
+    from_here m (free_elements line x t (count - i) i) ≡ Goes Next (state_of m) (told_of m) (left_of m)
 free_done m line x t count i le = ap (λ n. from_here m (free_elements line x t n i)) (none_more count i le) ∙ nothing_done m
 
 -- ---- values of expressions, and then 0
@@ -77,12 +78,12 @@ pub set_found : (m : Machine) (k : Setting) (line x count i : ℕ) (es : List TE
     from_here m (λ s c. with_value (first_value (rows_in k s) (drop i es)) c (λ v. then_do (store_at line (Local x) (Some i) v s c) (set_elements k line x (count - (i + 1)) (i + 1) (drop (i + 1) es))))
 set_found m k line x count i es lt =
     ap (λ n. from_here m (set_elements k line x n i (drop i es))) (count_more count i lt)
-    ∙ ap (λ e. preceded m.events.items e) (set_next k line x (count - (i + 1)) i (drop i es) (state_of m) (left_of m))
+    ∙ ap (λ e. preceded (told_of m) (unmeasured e)) (set_next k line x (count - (i + 1)) i (drop i es) (state_of m) (left_of m))
     ∙ ap (λ rest. from_here m (λ s c. with_value (first_value (rows_in k s) (drop i es)) c (λ v. then_do (store_at line (Local x) (Some i) v s c) (set_elements k line x (count - (i + 1)) (i + 1) rest)))) (drop_next i es)
 
 pub set_step : (m new : Machine) (k : Setting) (line x count i : ℕ) (es : List TExpr) (v : ℤ) → i < count →
     ((go : ℤ → Onward) → from_here m (λ s c. with_value (first_value (rows_in k s) (drop i es)) c (λ n. go n s c)) ≡ from_here m (go v)) →
-    from_here m (store_at line (Local x) (Some i) v) ≡ Goes Next (state_of new) new.events.items (left_of new) →
+    from_here m (store_at line (Local x) (Some i) v) ≡ Goes Next (state_of new) (told_of new) (left_of new) →
     from_here m (set_elements k line x (count - i) i (drop i es)) ≡ from_here new (set_elements k line x (count - (i + 1)) (i + 1) (drop (i + 1) es))
 set_step m new k line x count i es v lt found stored =
     set_found m k line x count i es lt
@@ -106,13 +107,13 @@ set_unstored h m new k line x count i es v lt found stored =
     (then_halts h m new (store_at line (Local x) (Some i) v) (set_elements k line x (count - (i + 1)) (i + 1) (drop (i + 1) es)) stored)
 
 pub set_done : (m : Machine) (k : Setting) (line x count i : ℕ) (es : List TExpr) → count ≤ i →
-    from_here m (set_elements k line x (count - i) i (drop i es)) ≡ Goes Next (state_of m) m.events.items (left_of m)
+    from_here m (set_elements k line x (count - i) i (drop i es)) ≡ Goes Next (state_of m) (told_of m) (left_of m)
 set_done m k line x count i es le = ap (λ n. from_here m (set_elements k line x n i (drop i es))) (none_more count i le) ∙ nothing_done m
 
 -- ---- parameters
 
 pub param_step : (m new : Machine) (line x i : ℕ) (args : List ℤ) → i < length args →
-    from_here m (store_at line (Local x) None (get_or args i (pos 0))) ≡ Goes Next (state_of new) new.events.items (left_of new) →
+    from_here m (store_at line (Local x) None (get_or args i (pos 0))) ≡ Goes Next (state_of new) (told_of new) (left_of new) →
     from_here m (set_params line x (drop i args)) ≡ from_here new (set_params line (x + 1) (drop (i + 1) args))
 param_step m new line x i args lt stored =
     ap (λ ns. from_here m (set_params line x ns)) (drop_more args i (pos 0) lt)

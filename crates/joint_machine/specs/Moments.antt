@@ -8,7 +8,7 @@ use Rattle.joint_ir.specs.declared.pair.Pair.{Pair}
 use Rattle.joint_ir.specs.declared.program.CProgram.{CProgram}
 use Rattle.joint_ir.specs.States.{JointState}
 use Rattle.joint_ir.specs.Effects as effects
-use Rattle.joint_ir.specs.Effects.{Effect, Onward, Goes, Stops, TooFew, preceded}
+use Rattle.joint_ir.specs.Effects.{Effect, Told, Onward, Goes, Stops, TooFew, preceded}
 use Rattle.joint_ir.specs.Steps.{Setting, Calls, slot_type}
 use Rattle.joint_ir.specs.Statements.{calls_at}
 use Rattle.joint_ir.specs.WellFormed.{Scope}
@@ -17,7 +17,7 @@ use Rattle.joint_value.specs.Evaluable.{KeepsTypes}
 use Rattle.joint_view.specs.declared.halt.Halt.{Halt}
 use Rattle.joint_view.specs.declared.halt.Halt.TheVariants as halt
 use Rattle.joint_view.specs.Conditions.{IsView}
-use Rattle.joint_view.specs.Halts.{last_events}
+use Rattle.joint_view.specs.Halts.{last_events, only_seen, unmeasured}
 use Rattle.joint_machine.specs.declared.machine.Machine.{Machine}
 use Rattle.joint_machine.specs.declared.machine.Way.{Way}
 use Rattle.joint_machine.specs.declared.machine.Way.TheVariants as way
@@ -29,6 +29,10 @@ state_of m = record { store = m.store; view = m.view; edges = m.edges; returned 
 abbrev pub left_of : Machine → List ℕ
 left_of m = drop m.at m.choices
 
+-- what was seen so far
+abbrev pub told_of : Machine → Told
+told_of m = only_seen m.events.items
+
 abbrev pub way_of : Way → effects.Way
 way_of way.Next = effects.Next
 way_of way.Breaking = effects.Breaking
@@ -37,17 +41,17 @@ way_of way.Returning = effects.Returning
 
 -- an effect ends a run as a machine that halts shows; want of memory says nothing of it
 abbrev pub Halts : Halt → Machine → Effect → Type 0
-Halts (halt.Stop o) m e = e ≡ Stops o (m.events.items ++ last_events o) (left_of m)
+Halts (halt.Stop o) m e = e ≡ Stops o (only_seen (m.events.items ++ last_events o)) (left_of m)
 Halts halt.TooFew m e = e ≡ TooFew
 Halts halt.Memory m e = Unit {0}
 
--- a stretch of a run from where a machine is, behind what was seen so far
+-- a stretch of a run from where a machine is, behind what was seen so far, without the widths that are drawn
 abbrev pub from_here : Machine → Onward → Effect
-from_here m f = preceded m.events.items (f (state_of m) (left_of m))
+from_here m f = preceded (told_of m) (unmeasured (f (state_of m) (left_of m)))
 
 -- an effect is what a machine shows
 abbrev pub Shows : Result Way Halt → Machine → Effect → Type 0
-Shows (Ok w) m e = e ≡ Goes (way_of w) (state_of m) m.events.items (left_of m)
+Shows (Ok w) m e = e ≡ Goes (way_of w) (state_of m) (told_of m) (left_of m)
 Shows (Err h) m e = Halts h m e
 
 -- a machine did what a stretch of a run does
@@ -56,7 +60,7 @@ Does result old new f = Shows result new (from_here old f)
 
 -- the same for a stretch that goes on to the next statement if it goes on
 abbrev pub Passes : {A : Type 0} → Result A Halt → (old new : Machine) → Onward → Type 0
-Passes (Ok _) old new f = from_here old f ≡ Goes effects.Next (state_of new) new.events.items (left_of new)
+Passes (Ok _) old new f = from_here old f ≡ Goes effects.Next (state_of new) (told_of new) (left_of new)
 Passes (Err h) old new f = Halts h new (from_here old f)
 
 -- a machine found a value, whatever goes on with it

@@ -1,12 +1,12 @@
 //! Activations of functions: what begins one, and what ends it (C99 6.5.2.2, 6.9.1).
 
-ghost use Rattle.std.specs.Prelude.{◌≡◌, ℕ, List, ◌+◌, ◌<◌, ◌^◌, ◌++◌, ◌∷◌, [], eqb, count_by, length, IfOk, IfErr, OnOk, IfSome};
-ghost use Rattle.joint_ir.specs.Effects.{Goes};
-ghost use Rattle.joint_ir.specs.States.{Store, first_rows};
-ghost use Rattle.joint_ir.specs.Steps.{with_locals};
+ghost use Rattle.std.specs.Prelude.{◌≡◌, ℕ, List, ◌+◌, ◌<◌, ◌≤◌, ◌^◌, ◌++◌, ◌∷◌, [], eqb, count_by, length, IfOk, IfErr, OnOk, IfSome};
+ghost use Rattle.joint_ir.specs.Effects.{Goes, nothing};
+ghost use Rattle.joint_ir.specs.States.{Store};
 ghost use Rattle.joint_ir.specs.Statements.{after_body, closing, is_below_limit, set_params as params_set};
 ghost use Rattle.joint_ir.specs.Types.{IsType};
 ghost use Rattle.joint_ir.specs.WellFormed.{IsWellFormed};
+ghost use Rattle.joint_value.specs.Elements.{part_of, replaced};
 ghost use Rattle.joint_value.specs.Evaluable.{KeepsTypes};
 ghost use Rattle.joint_machine.specs.Moments.{Passes, AreParams, IsKept, IsReady, way_of};
 
@@ -39,48 +39,49 @@ impl Machine {
         n
     }
 
-    /// An activation begins: its locals are its own, and its parameters take the arguments. Gives the caller's locals.
+    /// An activation begins: its parameters take the arguments. The function's own objects stand in `locals` from `first`
+    /// up to `end`. Gives them as the caller has them.
     pub fn begin(
         &mut self,
         alloc: Global,
-        pair: &Pair,
         line: u32,
         function: u32,
         first: u32,
+        end: usize,
         args: &[i128],
     ) -> Result<Rows, Halt>
-        requires well { IsWellFormed pair.now }
-        requires ready { IsReady pair.now self.old }
         requires few { first + length args.now < 2 ^ 32 }
-        requires args { AreParams pair.now.program first args.now }
-        ensures does { Passes result self.old self.new (λ s c. params_set line first args.now (with_locals s (first_rows pair.now.program.locals)) c) }
-        ensures saved { IfOk result (λ rows. rows ≡ self.old.store.locals) }
+        requires from { first ≤ end }
+        ensures does { Passes result self.old self.new (params_set line first args.now) }
+        ensures saved { IfOk result (λ rows. rows ≡ part_of first end self.old.store.locals) }
         ensures choices { self.new.choices ≡ self.old.choices }
         ensures standing { IfOk result (λ _. self.new.standing.items ≡ self.old.standing.items ++ function ∷ []) }
-        ensures ready { IfOk result (λ _. IsReady pair.now self.new) }
+        ensures ready { IfOk result (λ _. (pair : Pair) → AreParams pair.program first args.now → IsReady pair self.old → IsReady pair self.new) }
     {
-        let own = Rows::first(alloc, pair.program.locals.as_slice())?;
+        let saved = self.store.locals().part(alloc, first as usize, end)?;
         push_function(&mut self.standing, function)?;
-        let saved = self.store.replace_locals(own);
         self.set_params(line, first, args)?;
         Ok(saved)
     }
 
-    /// An activation ends: the caller's locals are back. Where no `return` was met its result is that at the closing brace.
+    /// An activation ends: the caller's objects are back, from `first` on. Where no `return` was met its result is that at the
+    /// closing brace.
     pub fn leave(
         &mut self,
+        first: u32,
         saved: Rows,
         is_main: bool,
         ty: Option<IntType>,
         way: Way,
     ) -> Result<(), Halt>
-        requires { IfSome ty IsType }
-        ensures does { Passes result self.old self.new (λ s c. after_body is_main ty saved (Goes (way_of way) s [] c)) }
+        requires typed { IfSome ty IsType }
+        requires room { first + length saved ≤ length self.old.store.locals }
+        ensures does { Passes result self.old self.new (λ s c. after_body is_main ty (replaced first saved self.old.store.locals) (Goes (way_of way) s nothing c)) }
         ensures choices { self.new.choices ≡ self.old.choices }
         ensures standing { (before : List ℕ) (f : ℕ) → self.old.standing.items ≡ before ++ f ∷ [] → self.new.standing.items ≡ before }
-        ensures ready { IfOk result (λ _. (pair : Pair) (caller : Store) → IsReady pair self.old → KeepsTypes pair.program caller → saved ≡ caller.locals → IsReady pair self.new) }
+        ensures ready { IfOk result (λ _. (pair : Pair) (caller : Store) → IsReady pair self.old → KeepsTypes pair.program caller → replaced first saved self.old.store.locals ≡ caller.locals → IsReady pair self.new) }
     {
-        self.store.replace_locals(saved);
+        self.store.put_back(first as usize, saved);
         self.standing.pop();
         match way {
             Way::Returning => Ok(()),

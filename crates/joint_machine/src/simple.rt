@@ -1,7 +1,7 @@
 //! What statements do without calls.
 
 ghost use Rattle.std.specs.Prelude.{◌≡◌, ◌<◌, ◌^◌, [], ◌+◌, length, map, drop, All, IfOk, IfSome, pos, IsSome, MatchOption, slice_index_or, if◌then◌else◌};
-ghost use Rattle.joint_ir.specs.Effects.{with_values, with_value, draw as drawn, broken, Stops, Goes, Next};
+ghost use Rattle.joint_ir.specs.Effects.{with_values, with_value, draw as drawn, broken, nothing, Stops, Goes, Next};
 ghost use Rattle.joint_ir.specs.Steps.{rows_in, with_index, within_bounds, store_at, update_effect, slot_type as type_of, free_elements as free_elements_of, set_elements as set_elements_of, element_of, right_value, first_value};
 ghost use Rattle.joint_ir.specs.Statements.{set_params as params_set, any_result as any_result_of, condition_value};
 ghost use Rattle.joint_ir.specs.Types.{InRange, IsType, converted as converted_to};
@@ -335,7 +335,7 @@ impl Machine {
         requires well { IsWellFormed pair.now }
         requires ready { IsReady pair.now self.now }
         requires fits { Stands pair.now here (λ c. FitsExpr c e.now) }
-        ensures does { Passes result self.now self.now (λ s c. with_value (value_of (rows_in (setting pair.now bounds.now here) s) e.now) c (λ n. if is_zero n then broken prop c else Goes Next s [] c)) }
+        ensures does { Passes result self.now self.now (λ s c. with_value (value_of (rows_in (setting pair.now bounds.now here) s) e.now) c (λ n. if is_zero n then broken prop c else Goes Next s nothing c)) }
     {
         let n = self.value(pair, bounds.frames, here, e)?;
         if n == 0 {
@@ -349,7 +349,7 @@ impl Machine {
         requires well { IsWellFormed pair.now }
         requires ready { IsReady pair.now self.now }
         requires fits { Stands pair.now here (λ c. FitsExpr c e.now) }
-        ensures does { Passes result self.now self.now (λ s c. with_value (value_of (rows_in (setting pair.now bounds.now here) s) e.now) c (λ n. if is_zero n then Stops Outcome.Cut [] c else Goes Next s [] c)) }
+        ensures does { Passes result self.now self.now (λ s c. with_value (value_of (rows_in (setting pair.now bounds.now here) s) e.now) c (λ n. if is_zero n then Stops Outcome.Cut nothing c else Goes Next s nothing c)) }
     {
         let n = self.value(pair, bounds.frames, here, e)?;
         if n == 0 {

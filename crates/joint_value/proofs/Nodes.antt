@@ -125,15 +125,15 @@ module _ {rows : Rows} {e : TExpr} (h : IsEvaluable rows e) where
 
   pub test-choose : (c test a b : TExpr) → e.node ≡ Choose c a b → test ≡ c → IsEvaluable rows test
   unfolding hidden-the_row-TExpr-0 hidden
-  test-choose c test a b is is_c = record { scope = h.scope; fits = (node_fits _ (is ∙ ap (λ x. Choose x a b) (sym is_c))).2; held = h.held }
+  test-choose c test a b is is_c = record { scope = h.scope; fits = (node_fits _ (is ∙ ap (λ x. Choose x a b) (sym is_c))).3; held = h.held }
 
   pub first-choose : (c a got b : TExpr) → e.node ≡ Choose c a b → got ≡ a → IsEvaluable rows got
   unfolding hidden-the_row-TExpr-0 hidden
-  first-choose c a got b is is_a = record { scope = h.scope; fits = (node_fits _ (is ∙ ap (λ x. Choose c x b) (sym is_a))).3; held = h.held }
+  first-choose c a got b is is_a = record { scope = h.scope; fits = (node_fits _ (is ∙ ap (λ x. Choose c x b) (sym is_a))).4; held = h.held }
 
   pub second-choose : (c a b more : TExpr) → e.node ≡ Choose c a b → more ≡ b → IsEvaluable rows more
   unfolding hidden-the_row-TExpr-0 hidden
-  second-choose c a b more is is_b = record { scope = h.scope; fits = (node_fits _ (is ∙ ap (λ y. Choose c a y) (sym is_b))).4; held = h.held }
+  second-choose c a b more is is_b = record { scope = h.scope; fits = (node_fits _ (is ∙ ap (λ y. Choose c a y) (sym is_b))).5; held = h.held }
 
   -- a conversion
   is_convert : (a got : TExpr) → e.node ≡ Convert a → got ≡ a → e.node ≡ Convert got

@@ -208,13 +208,13 @@ can_operate c Ge t u v d p x y h r s = tt
 module _ (c : Scope) (rows : Rows) (held : HoldsTypes c.program rows) where
   -- a node of a type: there is such a type, and its value is a number of it
   pub node_type : (t : IntType) (node : TNode) → FitsNode c t node → IsType t
-  node_type t (Const n) h = h.0
+  node_type t (Const n) h = h.0.type
   node_type t (Read slot) h = subst IsType (sym h.1) (held.types slot)
   node_type t (Index' slot _ (more_of-TExpr u q a _) p) h = subst IsType (sym h.1) (held.types slot)
   node_type t (Unary' op _ (more_of-TExpr u q a _) p) h = unary_type c.program op t u p h.0
   node_type t (Binary' op _ (more_of-TExpr u q a _) _ (more_of-TExpr v r b _) d p) h = binary_type c.program op t u v d p h.0
   node_type t (Logic' op _ (more_of-TExpr u q a _) _ (more_of-TExpr v r b _)) h = int_is t h.0
-  node_type t (Choose' _ (more_of-TExpr u q x _) _ (more_of-TExpr v r a _) _ (more_of-TExpr w s b _)) h = subst IsType h.0 (node_type v a h.3)
+  node_type t (Choose' _ (more_of-TExpr u q x _) _ (more_of-TExpr v r a _) _ (more_of-TExpr w s b _)) h = h.0.type
   node_type t (Convert' _ (more_of-TExpr u q a _)) h = h.0
 
   pub node_gives : (t : IntType) (node : TNode) → FitsNode c t node → Gives t (node_value rows t node)
@@ -231,10 +231,10 @@ module _ (c : Scope) (rows : Rows) (held : HoldsTypes c.program rows) where
       subst (λ (w : IntType). Gives w (and_then (node_value rows u a) (λ x. logic_value op x (node_value rows v b)))) (sym h.0)
       (then_gives int u (node_value rows u a) (λ x. logic_value op x (node_value rows v b)) (node_gives u a h.1) (λ x i. logic_gives op x (node_value rows v b)))
   node_gives t (Choose' _ (more_of-TExpr u q x _) _ (more_of-TExpr v r a _) _ (more_of-TExpr w s b _)) h =
-      then_gives t u (node_value rows u x) (λ n. if is_zero n then node_value rows w b else node_value rows v a) (node_gives u x h.2)
+      then_gives t u (node_value rows u x) (λ n. if is_zero n then node_value rows w b else node_value rows v a) (node_gives u x h.3)
       (λ n i. choice_gives t (is_zero n) (node_value rows v a) (node_value rows w b)
-      (subst (λ (z : IntType). Gives z (node_value rows v a)) h.0 (node_gives v a h.3))
-      (subst (λ (z : IntType). Gives z (node_value rows w b)) h.1 (node_gives w b h.4)))
+      (subst (λ (z : IntType). Gives z (node_value rows v a)) h.1 (node_gives v a h.4))
+      (subst (λ (z : IntType). Gives z (node_value rows w b)) h.2 (node_gives w b h.5)))
   node_gives t (Convert' _ (more_of-TExpr u q a _)) h =
       then_gives t u (node_value rows u a) _ (node_gives u a h.1) (λ x i. converted_in t x h.0)
 

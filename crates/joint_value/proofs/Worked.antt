@@ -53,7 +53,7 @@ bound_fits : FitsExpr scope the_bound
 bound_fits = (record { visible = tt; shape = refl }, refl)
 
 four_fits : FitsExpr scope four
-four_fits = (Single false, record { low = omega (arith, ints); high = omega (arith, ints) })
+four_fits = (wide, record { low = omega (arith, ints); high = omega (arith, ints) })
 
 difference_fits : (a b : TExpr) → a ≡ the_bound → b ≡ four → FitsExpr scope (record { ty = unsigned; place = here; node = Binary Sub a b None None })
 unfolding hidden-the_row-TExpr-0 hidden

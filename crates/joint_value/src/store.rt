@@ -1,8 +1,8 @@
 //! The numbers that C's objects hold.
 
-ghost use Rattle.std.specs.Prelude.{◌≡◌, [], ◌∷◌, ◌++◌, length, slice_index_or, IfOk, OnOk, OnErr, pos};
+ghost use Rattle.std.specs.Prelude.{◌≡◌, ◌+◌, ◌≤◌, [], ◌∷◌, ◌++◌, length, slice_index_or, IfOk, OnOk, OnErr, pos};
 ghost use Rattle.joint_ir.specs.States.{rows_of, row_at, put as put_of, put_at, first_rows, filled_up, element_count as element_count_of};
-ghost use Rattle.joint_value.specs.Elements.{row_items};
+ghost use Rattle.joint_value.specs.Elements.{row_items, part_of, replaced};
 
 use joint_ir::{Slot, Var};
 use std::alloc::{AllocError, Global};
@@ -67,6 +67,30 @@ impl Rows {
         Ok(())
     }
 
+    /// Copies of the objects from a place on, up to another one.
+    pub fn part(&self, alloc: Global, first: usize, end: usize) -> Result<Rows, AllocError>
+        requires { first ≤ end }
+        ensures { IfOk result (λ rows. rows ≡ part_of first end self.now) }
+    {
+        let mut rows = Rows::new(alloc);
+        let stop = end.min(self.len());
+        for i in first..stop {
+            rows.push(Vec::from_slice(alloc, self.row(i))?)?;
+        }
+        Ok(rows)
+    }
+
+    /// Puts objects in place of those from one on.
+    pub fn put_back(&mut self, first: usize, others: Rows)
+        requires { first + length others ≤ length self.old }
+        ensures { self.new ≡ replaced first others self.old }
+    {
+        let mut others = others;
+        let rows = &mut self.rows;
+        let end = first + others.rows.len();
+        rows[first..end].swap_with_slice(&mut others.rows);
+    }
+
     /// The number of objects.
     pub fn len(&self) -> usize
         ensures { result ≡ length self.now }
@@ -110,8 +134,7 @@ fn first_row(alloc: Global, var: &Var) -> Result<Vec<i128>, AllocError>
     Ok(row)
 }
 
-/// The objects of a run at one moment: those of file scope, the locals of the activation that runs, and the members of
-/// the mirror.
+/// The objects of a run at one moment: those of file scope, the locals of all functions, and the members of the mirror.
 #[derive(Drop)]
 pub struct Store {
     globals: Rows,
@@ -146,7 +169,7 @@ impl Store {
         &self.globals
     }
 
-    /// The locals of the activation that runs: those of all functions, in text order.
+    /// The locals of all functions, in text order.
     pub fn locals(&self) -> &Rows
         ensures { result.now ≡ self.now.locals }
     {
@@ -160,12 +183,12 @@ impl Store {
         &self.members
     }
 
-    /// Puts other locals in, and gives those that stood.
-    pub fn replace_locals(&mut self, locals: Rows) -> Rows
-        ensures given { result ≡ self.old.locals }
-        ensures store { self.new ≡ record { globals = self.old.globals; locals = locals; members = self.old.members } }
+    /// Puts locals in place of those from one on.
+    pub fn put_back(&mut self, first: usize, others: Rows)
+        requires { first + length others ≤ length self.old.locals }
+        ensures { self.new ≡ record { globals = self.old.globals; locals = replaced first others self.old.locals; members = self.old.members } }
     {
-        std::mem::replace(&mut self.locals, locals)
+        self.locals.put_back(first, others);
     }
 
     /// Puts other members in, and gives those that stood.

@@ -12,11 +12,11 @@ use Rattle.joint_ir.specs.Steps.{Setting, settled_view, set_inputs, clock_edge, 
 use Rattle.joint_ir.specs.Runs.{draw_registers, with_first_state}
 use Rattle.joint_view.specs.declared.halt.Halt.{Halt}
 use Rattle.joint_view.specs.declared.halt.Halt.TheVariants as halt
-use Rattle.joint_view.specs.Halts.{HaltsAs, Draws, HaltsDraws}
+use Rattle.joint_view.specs.Halts.{HaltsAs, Draws, HaltsDraws, only_seen, unmeasured}
 use Rattle.joint_view.specs.Moves.{moved_to, IsAt}
 
 -- a stretch that begins with draws that halt
-pub halts_drawing : (h : Halt) (drawing : (List ℕ → List ℕ → Effect) → Effect) (effect : Effect) (left : List ℕ) (go : List ℕ → List ℕ → Effect) → effect ≡ drawing go → HaltsDraws h drawing → HaltsAs h left effect
+pub halts_drawing : (h : Halt) (drawing : (List ℕ → List ℕ → Effect) → Effect) (effect : Effect) (left : List ℕ) (go : List ℕ → List ℕ → Effect) → unmeasured effect ≡ unmeasured (drawing go) → HaltsDraws h drawing → HaltsAs h left effect
 halts_drawing (halt.Stop o) drawing effect left go e h = absurd h
 halts_drawing halt.TooFew drawing effect left go e h = e ∙ h go
 halts_drawing halt.Memory drawing effect left go e h = tt
@@ -28,14 +28,14 @@ module _ (rows : List (List ℤ)) (new : View) (seen : List Shown) where
       Draws (draw_all (site_widths p.module.settle_sites) c) unknown left →
       new ≡ settled_view p.module v.registers (driven p members v.inputs) unknown →
       rows ≡ filled p new → seen ≡ changed p.module v new →
-      set_inputs k s c ≡ Goes Next (moved_to s s.edges new rows) (Driven seen ∷ []) left
+      unmeasured (set_inputs k s c) ≡ Goes Next (moved_to s s.edges new rows) (only_seen (Driven seen ∷ [])) left
 
   own_inputs_moved : (k : Setting) (s : JointState) (unknown c left : List ℕ) → InputsMoved k s unknown c left k.pair s.view s.store.members
   own_inputs_moved k s unknown c left drawn is filled_is seen_is =
       let m = k.pair.module in
       let driven_inputs = driven k.pair s.store.members s.view.inputs in
-      let after : View → List (List ℤ) → List Shown → Effect = λ v r x. Goes Next (moved_to s s.edges v r) (Driven x ∷ []) left in
-      drawn (λ u rest. let v = settled_view m s.view.registers driven_inputs u in Goes Next (at_view k.pair s s.edges v) (Driven (changed m s.view v) ∷ []) rest)
+      let after : View → List (List ℤ) → List Shown → Effect = λ v r x. Goes Next (moved_to s s.edges v r) (only_seen (Driven x ∷ [])) left in
+      drawn (λ u rest. let v = settled_view m s.view.registers driven_inputs u in Goes Next (at_view k.pair s s.edges v) (only_seen (Driven (changed m s.view v) ∷ [])) rest)
       ∙ ap (λ v. after v (filled k.pair v) (changed m s.view v)) (sym is)
       ∙ ap (λ r. after new r (changed m s.view new)) (sym filled_is)
       ∙ ap (λ x. after new rows x) (sym seen_is)
@@ -55,15 +55,15 @@ module _ (rows : List (List ℤ)) (new : View) (seen : List Shown) where
       Draws (draw_all (site_widths p.module.settle_sites) c'') unknown left →
       new ≡ settled_view p.module (next_registers p.module v at_edge) inputs unknown →
       rows ≡ filled p new → seen ≡ changed p.module v new →
-      clock_edge k s c ≡ Goes Next (moved_to s (s.edges + 1) new rows) (Frame (edges + 1) seen ∷ []) left
+      unmeasured (clock_edge k s c) ≡ Goes Next (moved_to s (s.edges + 1) new rows) (only_seen (Frame (edges + 1) seen ∷ [])) left
 
   own_edge_taken : (k : Setting) (s : JointState) (at_edge inputs unknown c c' c'' left : List ℕ) → EdgeTaken k s at_edge inputs unknown c c' c'' left k.pair s.view s.edges
   own_edge_taken k s at_edge inputs unknown c c' c'' left first second third is filled_is seen_is =
       let m = k.pair.module in
-      let after : View → List (List ℤ) → List Shown → Effect = λ v r x. Goes Next (moved_to s (s.edges + 1) v r) (Frame (s.edges + 1) x ∷ []) left in
+      let after : View → List (List ℤ) → List Shown → Effect = λ v r x. Goes Next (moved_to s (s.edges + 1) v r) (only_seen (Frame (s.edges + 1) x ∷ [])) left in
       let last : List ℕ → List ℕ → List ℕ → List ℕ → Effect = λ a i u rest.
       let v = settled_view m (next_registers m s.view a) i u in
-      Goes Next (at_view k.pair s (s.edges + 1) v) (Frame (s.edges + 1) (changed m s.view v) ∷ []) rest in
+      Goes Next (at_view k.pair s (s.edges + 1) v) (only_seen (Frame (s.edges + 1) (changed m s.view v) ∷ [])) rest in
       first (λ a d. draw_all (widths_of Input m.signals) d (λ i d'. draw_all (site_widths m.settle_sites) d' (λ u rest. last a i u rest)))
       ∙ second (λ i d'. draw_all (site_widths m.settle_sites) d' (λ u rest. last at_edge i u rest))
       ∙ third (λ u rest. last at_edge inputs u rest)
@@ -85,12 +85,12 @@ module _ (rows : List (List ℤ)) (new : View) where
       Draws (draw_all (widths_of Input p.module.signals) c') inputs c'' →
       Draws (draw_all (site_widths p.module.settle_sites) c'') unknown left →
       new ≡ settled_view p.module registers inputs unknown → rows ≡ filled p new →
-      (go : Onward) → with_first_state p c go ≡ go (record {
+      (go : Onward) → unmeasured (with_first_state p c go) ≡ unmeasured (go (record {
         store = record { globals = first_rows p.program.globals; locals = first_rows p.program.locals; members = rows };
         view = new;
         edges = 0;
         returned = pos 0;
-      }) left
+      }) left)
   state_begun p registers inputs unknown c c' c'' left first second third is filled_is go =
       let m = p.module in
       let state : View → List (List ℤ) → JointState = λ v r. record {
@@ -103,5 +103,5 @@ module _ (rows : List (List ℤ)) (new : View) where
       first (λ r d. draw_all (widths_of Input m.signals) d (λ i d'. draw_all (site_widths m.settle_sites) d' (λ u rest. last r i u rest)))
       ∙ second (λ i d'. draw_all (site_widths m.settle_sites) d' (λ u rest. last registers i u rest))
       ∙ third (λ u rest. last registers inputs u rest)
-      ∙ ap (λ v. go (state v (filled p v)) left) (sym is)
-      ∙ ap (λ r. go (state new r) left) (sym filled_is)
+      ∙ ap (λ v. unmeasured (go (state v (filled p v)) left)) (sym is)
+      ∙ ap (λ r. unmeasured (go (state new r) left)) (sym filled_is)

@@ -2,15 +2,21 @@
 use Rattle.std.proofs.Common.{◌≡◌, ℕ, ◌+◌, ◌<◌, List, [], ◌∷◌, ◌++◌, length, get_or, drop, refl, sym, ap, ◌∙◌, arith, append_assoc}
 use Rattle.std.specs.Prelude.{Option, Some, None}
 use Rattle.std.proofs.lemmas.List.{at_drop_more, drop_more}
-use Rattle.joint_ir.specs.Effects.{Effect, draw, draw_all}
+use Rattle.joint_ir.specs.Effects.{Effect, Goes, Stops, TooFew, preceded, drew, draw, draw_all}
 use Rattle.joint_ir.specs.Runs.{draw_registers}
 use Rattle.joint_view.specs.declared.halt.Halt.{Halt}
 use Rattle.joint_view.specs.declared.halt.Halt.TheVariants as halt
-use Rattle.joint_view.specs.Halts.{Draws, HaltsDraws}
+use Rattle.joint_view.specs.Halts.{Draws, HaltsDraws, unmeasured}
+
+-- what is drawn is seen without its width
+pub drawn_unmeasured : (bits : ℕ) (e : Effect) → unmeasured (preceded (drew bits) e) ≡ unmeasured e
+drawn_unmeasured bits (Goes way s told c) = refl
+drawn_unmeasured bits (Stops o told c) = refl
+drawn_unmeasured bits TooFew = refl
 
 -- what begins with draws that halt halts as these do
 pub halts_first : (h : Halt) (one all : (List ℕ → List ℕ → Effect) → Effect) (more : (List ℕ → List ℕ → Effect) → List ℕ → List ℕ → Effect) →
-    ((go : List ℕ → List ℕ → Effect) → all go ≡ one (more go)) → HaltsDraws h one → HaltsDraws h all
+    ((go : List ℕ → List ℕ → Effect) → unmeasured (all go) ≡ unmeasured (one (more go))) → HaltsDraws h one → HaltsDraws h all
 halts_first (halt.Stop o) one all more same h = h
 halts_first halt.TooFew one all more same h = λ go. same go ∙ h (more go)
 halts_first halt.Memory one all more same h = tt
@@ -34,22 +40,22 @@ register_at firsts widths c k first lt same at go =
 module _ (choices : List ℕ) (next : ℕ) (numbers all : List ℕ) (k n : ℕ) (is : all ≡ numbers ++ n ∷ []) where
   -- the draws of the widths that are left, after one more
   pub draw_all_more : (widths from : List ℕ) → k < length widths →
-      ((go : ℕ → List ℕ → Effect) → draw (get_or widths k 0) (drop next choices) go ≡ go n (drop (next + 1) choices)) →
-      ((go : List ℕ → List ℕ → Effect) → draw_all widths from go ≡ draw_all (drop k widths) (drop next choices) (λ ns. go (numbers ++ ns))) →
-      (go : List ℕ → List ℕ → Effect) → draw_all widths from go ≡ draw_all (drop (k + 1) widths) (drop (next + 1) choices) (λ ns. go (all ++ ns))
+      ((go : ℕ → List ℕ → Effect) → unmeasured (draw (get_or widths k 0) (drop next choices) go) ≡ unmeasured (go n (drop (next + 1) choices))) →
+      ((go : List ℕ → List ℕ → Effect) → unmeasured (draw_all widths from go) ≡ unmeasured (draw_all (drop k widths) (drop next choices) (λ ns. go (numbers ++ ns)))) →
+      (go : List ℕ → List ℕ → Effect) → unmeasured (draw_all widths from go) ≡ unmeasured (draw_all (drop (k + 1) widths) (drop (next + 1) choices) (λ ns. go (all ++ ns)))
   draw_all_more widths from lt drawn so_far go =
       so_far go
-      ∙ at_drop_more (λ ws. draw_all ws (drop next choices) (λ ns. go (numbers ++ ns))) widths k 0 lt
+      ∙ at_drop_more (λ ws. unmeasured (draw_all ws (drop next choices) (λ ns. go (numbers ++ ns)))) widths k 0 lt
       ∙ drawn (λ m rest. draw_all (drop (k + 1) widths) rest (λ ns. go (numbers ++ m ∷ ns)))
       ∙ rw is (simp append_assoc)
 
   -- the same for registers
   pub draw_registers_more : (firsts : List (Option ℕ)) (widths from : List ℕ) (first : Option ℕ) (behind : ℕ) → k < length widths → length firsts ≡ length widths → first ≡ get_or firsts k first →
       Draws (draw_registers (first ∷ []) (get_or widths k 0 ∷ []) (drop next choices)) (n ∷ []) (drop behind choices) →
-      ((go : List ℕ → List ℕ → Effect) → draw_registers firsts widths from go ≡ draw_registers (drop k firsts) (drop k widths) (drop next choices) (λ ns. go (numbers ++ ns))) →
-      (go : List ℕ → List ℕ → Effect) → draw_registers firsts widths from go ≡ draw_registers (drop (k + 1) firsts) (drop (k + 1) widths) (drop behind choices) (λ ns. go (all ++ ns))
+      ((go : List ℕ → List ℕ → Effect) → unmeasured (draw_registers firsts widths from go) ≡ unmeasured (draw_registers (drop k firsts) (drop k widths) (drop next choices) (λ ns. go (numbers ++ ns)))) →
+      (go : List ℕ → List ℕ → Effect) → unmeasured (draw_registers firsts widths from go) ≡ unmeasured (draw_registers (drop (k + 1) firsts) (drop (k + 1) widths) (drop behind choices) (λ ns. go (all ++ ns)))
   draw_registers_more firsts widths from first behind lt same at drawn so_far go =
       so_far go
-      ∙ register_at firsts widths (drop next choices) k first lt same at (λ ns. go (numbers ++ ns))
+      ∙ ap unmeasured (register_at firsts widths (drop next choices) k first lt same at (λ ns. go (numbers ++ ns)))
       ∙ drawn (λ ns rest. draw_registers (drop (k + 1) firsts) (drop (k + 1) widths) rest (λ ms. go (numbers ++ (ns ++ ms))))
       ∙ rw is (simp append_assoc)

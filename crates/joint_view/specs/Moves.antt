@@ -5,6 +5,7 @@ use Rattle.joint_ir.specs.declared.pair.Pair.{Pair}
 use Rattle.joint_ir.specs.States.{View, JointState, first_rows}
 use Rattle.joint_ir.specs.Effects.{Effect, Goes, Next}
 use Rattle.joint_ir.specs.Steps.{Setting}
+use Rattle.joint_view.specs.Halts.{only_seen, unmeasured}
 use Rattle.joint_view.specs.declared.steps.Begun.{Begun}
 use Rattle.joint_view.specs.declared.steps.Moved.{Moved}
 
@@ -29,7 +30,7 @@ pub record IsAt (p : Pair) (v : View) (k : Setting) (s : JointState) : Type 0 wh
 -- a call goes on so from a state
 abbrev pub Moves : Effect → JointState → (edges : ℕ) → (choices : List ℕ) → Moved → Type 0
 Moves effect s edges choices m =
-    effect ≡ Goes Next (moved_to s edges m.view (row_items m.members.items)) (m.event ∷ []) (drop m.at choices)
+    unmeasured effect ≡ Goes Next (moved_to s edges m.view (row_items m.members.items)) (only_seen (m.event ∷ [])) (drop m.at choices)
 
 -- the first state of a pair
 abbrev pub first_state : Pair → Begun → JointState

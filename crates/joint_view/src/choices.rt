@@ -7,7 +7,7 @@ ghost use Rattle.joint_ir.specs.States.{copies, element_count};
 ghost use Rattle.joint_ir.specs.Views.{widths_of as widths_of_role, site_widths as widths_of_sites, same_role as same_role_of};
 ghost use Rattle.joint_ir.specs.WellFormed.{FitFirsts, FitsSignal, FitsSite};
 ghost use Rattle.joint_view.specs.Conditions.{AreWords, IsNarrow};
-ghost use Rattle.joint_view.specs.Halts.{Draws, HaltsDraws};
+ghost use Rattle.joint_view.specs.Halts.{Draws, HaltsDraws, unmeasured};
 
 use crate::halt::Halt;
 use crate::view::Numbers;
@@ -29,8 +29,8 @@ pub struct Drawn {
 /// A number of so many bits: the choice at a place modulo 2^bits. Its use takes the place one further.
 pub fn draw(bits: u8, choices: &[u64], at: usize) -> Result<u64, Halt>
     requires { IsNarrow bits }
-    ensures drawn { IfOk result (λ n. (go : ℕ → List ℕ → Effect) → draw_of bits (drop at choices.now) go ≡ go n (drop (at + 1) choices.now)) }
-    ensures too_few { IfErr result (λ h. (h ≡ Halt.TooFew) × ((go : ℕ → List ℕ → Effect) → draw_of bits (drop at choices.now) go ≡ NoMore)) }
+    ensures drawn { IfOk result (λ n. (go : ℕ → List ℕ → Effect) → unmeasured (draw_of bits (drop at choices.now) go) ≡ unmeasured (go n (drop (at + 1) choices.now))) }
+    ensures too_few { IfErr result (λ h. (h ≡ Halt.TooFew) × ((go : ℕ → List ℕ → Effect) → unmeasured (draw_of bits (drop at choices.now) go) ≡ NoMore)) }
     ensures below { IfOk result (λ n. n < 2 ^ bits) }
     ensures within { OnOk result (at < length choices.now) }
 {

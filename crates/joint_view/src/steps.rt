@@ -9,7 +9,7 @@ ghost use Rattle.joint_ir.specs.Views.{widths_of, site_widths};
 ghost use Rattle.joint_ir.specs.WellFormed.{IsWellFormed, FitsModule, FitsSite};
 ghost use Rattle.joint_ir.specs.declared.module.Role.TheVariants.{Input as input, Register as register};
 ghost use Rattle.joint_view.specs.Conditions.{AreWords, IsView};
-ghost use Rattle.joint_view.specs.Halts.{HaltsAs, Draws, HaltsDraws};
+ghost use Rattle.joint_view.specs.Halts.{HaltsAs, Draws, HaltsDraws, unmeasured};
 ghost use Rattle.joint_view.specs.Moves.{row_items, IsAt, Moves, first_state};
 
 use crate::choices::Drawn;
@@ -122,7 +122,7 @@ fn draw_registers(
 /// settling are drawn, in that order.
 pub fn begin(alloc: Global, pair: &Pair, choices: &[u64]) -> Result<Begun, Halt>
     requires { IsWellFormed pair.now }
-    ensures begun { IfOk result (λ b. (go : Onward) → with_first_state pair.now choices.now go ≡ go (first_state pair.now b) (drop b.at choices.now)) }
+    ensures begun { IfOk result (λ b. (go : Onward) → unmeasured (with_first_state pair.now choices.now go) ≡ unmeasured (go (first_state pair.now b) (drop b.at choices.now))) }
     ensures halts { IfErr result (λ h. (go : Onward) → HaltsAs h choices.now (with_first_state pair.now choices.now go)) }
     ensures proper { IfOk result (λ b. IsView pair.now.module b.view) }
     ensures within { IfOk result (λ b. b.at ≤ length choices.now) }

@@ -2,6 +2,7 @@ use Rattle.std.proofs.Common.{◌+◌, ◌++◌, [], ◌∷◌, drop, get_or, No
 use Rattle.std.proofs.lemmas.List.{drop_all, append-nil, get_or_default}
 use Rattle.std.proofs.lemmas.Result.{err_from_is_err_and}
 use Rattle.joint_ir.specs.Runs.{draw_registers}
+use Rattle.joint_view.specs.Halts.{unmeasured}
 use Rattle.joint_view.proofs.Fitting.{words_more, firsts_length, first_below}
 use Rattle.joint_view.proofs.Draws.{draw_registers_more, register_at, halts_first}
 use Rattle.joint_view.proofs.choices.draw_registers.Goals as goal
@@ -40,7 +41,7 @@ returns-in_err-n-clause-halts c =
     let left = drop c.loop-k.next c.args.choices.now in
     rw (p.1, p.2) (halts_first c.in_err-n.field-0.0 (draw_registers (first ∷ []) (get_or widths k 0 ∷ []) left) (draw_registers firsts widths (drop c.args.at c.args.choices.now))
     (λ go ns rest. draw_registers (drop (k + 1) firsts) (drop (k + 1) widths) rest (λ ms. go (c.loop-k.numbers ++ (ns ++ ms))))
-    (λ go. c.loop-k.invariant.drawn go ∙ register_at firsts widths left k first c.loop-k-test.true same (get_or_default firsts k _ _ (omega (arith, same, c.loop-k-test.true))) (λ ns. go (c.loop-k.numbers ++ ns)))
+    (λ go. c.loop-k.invariant.drawn go ∙ ap unmeasured (register_at firsts widths left k first c.loop-k-test.true same (get_or_default firsts k _ _ (omega (arith, same, c.loop-k-test.true))) (λ ns. go (c.loop-k.numbers ++ ns))))
     c.in_err-n.ensures.halts)
 
 pub returns-clause-drawn : goal.returns-clause-drawn
@@ -48,5 +49,5 @@ returns-clause-drawn c = λ go.
     let firsts = c.args.firsts.now in
     let same = firsts_length firsts c.args.widths.now c.requires.firsts in
     c.loop-k.invariant.drawn go
-    ∙ ap (λ fs. draw_registers fs (drop c.loop-k.k c.args.widths.now) (drop c.loop-k.next c.args.choices.now) (λ ns. go (c.loop-k.numbers ++ ns))) (drop_all c.loop-k.k firsts (omega (arith, same, c.loop-k-test.false)))
-    ∙ ap (λ ns. go ns (drop c.loop-k.next c.args.choices.now)) (append-nil c.loop-k.numbers)
+    ∙ ap (λ fs. unmeasured (draw_registers fs (drop c.loop-k.k c.args.widths.now) (drop c.loop-k.next c.args.choices.now) (λ ns. go (c.loop-k.numbers ++ ns)))) (drop_all c.loop-k.k firsts (omega (arith, same, c.loop-k-test.false)))
+    ∙ ap (λ ns. unmeasured (go ns (drop c.loop-k.next c.args.choices.now))) (append-nil c.loop-k.numbers)

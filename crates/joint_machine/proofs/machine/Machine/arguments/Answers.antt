@@ -11,7 +11,8 @@ use Rattle.joint_ir.specs.States.{rows_of}
 use Rattle.joint_ir.specs.Steps.{rows_in}
 use Rattle.joint_ir.specs.Values.{value_of}
 use Rattle.joint_ir.specs.Effects.{Effect, preceded, with_values}
-use Rattle.joint_machine.specs.Moments.{InTypes, setting, state_of, left_of}
+use Rattle.joint_view.specs.Halts.{unmeasured}
+use Rattle.joint_machine.specs.Moments.{InTypes, setting, state_of, left_of, told_of}
 use Rattle.joint_machine.proofs.Arguments.{values_more, values_broken, types_next}
 use Rattle.joint_machine.proofs.Flow.{broken_halts}
 use Rattle.joint_machine.proofs.machine.Machine.arguments.Goals as goal
@@ -51,7 +52,7 @@ returns-clause-finds c = λ go.
     let a = c.args in
     let m = a.self.now in
     let rows = rows_of a.bounds.now.frames m.store in
-    ap (λ (e : Effect). preceded m.events.items e)
+    ap (λ (e : Effect). preceded (told_of m) (unmeasured e))
     (c.loop-e.invariant.finds (left_of m) (λ ns. go ns (state_of m) (left_of m))
     ∙ at_drop_all (λ (xs : List TExpr). with_values rows xs (left_of m) (λ ns. go (c.loop-e.numbers ++ ns) (state_of m) (left_of m))) a.args.now c.loop-e.e-index c.loop-e-test.false
     ∙ ap (λ (ns : List ℤ). go ns (state_of m) (left_of m)) (append-nil c.loop-e.numbers))

@@ -3,7 +3,7 @@ use Rattle.std.proofs.lemmas.Result.{err_from_is_err_and}
 use Rattle.joint_ir.specs.Effects.{Effect}
 use Rattle.joint_ir.specs.Steps.{next_frame}
 use Rattle.joint_machine.specs.Moments.{setting, state_of, left_of}
-use Rattle.joint_machine.proofs.Moves.{IsFilled, halts_here, moves_passes, moved_ready, frame_filled, frame_before}
+use Rattle.joint_machine.proofs.Moves.{IsFilled, halts_here, moves_passes, moved_ready, unmeasured_filled, frame_filled, frame_before}
 use Rattle.joint_machine.proofs.machine.Machine.next_frame.Goals as goal
 
 pub returns-in_err-moved-clause-does : goal.returns-in_err-moved-clause-does
@@ -36,5 +36,5 @@ returns-clause-ready c =
     let is = simp c.as_slice.ensures at (c.in_ok-moved.ensures.moves k (state_of m) (record { pair = refl; view = refl }) refl refl) in
     let state = simp c.one_more-edges.ensures at c.move_to.ensures.state in
     moved_ready c.move_to.result c.args.pair.now m c.move_to.new.self (m.edges + 1) c.in_ok-moved.moved c.requires.well.program
-    (subst (λ (e : Effect). IsFilled c.args.pair.now e) is (frame_filled k c.args.prop (state_of m) (left_of m)))
+    (subst (λ (e : Effect). IsFilled c.args.pair.now e) is (unmeasured_filled c.args.pair.now (next_frame k c.args.prop (state_of m) (left_of m)) (frame_filled k c.args.prop (state_of m) (left_of m))))
     c.in_ok-moved.ensures.proper c.requires.ready state

@@ -3,7 +3,7 @@ use Rattle.std.proofs.lemmas.Result.{err_from_is_err_and}
 use Rattle.joint_ir.specs.Effects.{Effect}
 use Rattle.joint_ir.specs.Steps.{set_inputs}
 use Rattle.joint_machine.specs.Moments.{setting, state_of, left_of}
-use Rattle.joint_machine.proofs.Moves.{IsFilled, halts_here, moves_passes, moved_ready, inputs_filled}
+use Rattle.joint_machine.proofs.Moves.{IsFilled, halts_here, moves_passes, moved_ready, unmeasured_filled, inputs_filled}
 use Rattle.joint_machine.proofs.machine.Machine.set_inputs.Goals as goal
 
 pub returns-in_err-moved-clause-does : goal.returns-in_err-moved-clause-does
@@ -28,5 +28,5 @@ returns-clause-ready c =
     let k = setting c.args.pair.now (record { frames = 0; unwind = 0; check_bound = false; limits = [] }) 0 in
     let is = simp c.as_slice-2.ensures at (c.in_ok-moved.ensures.moves k (state_of m) (record { pair = refl; view = refl }) (sym (c.as_slice.ensures ∙ c.members.ensures))) in
     moved_ready c.move_to.result c.args.pair.now m c.move_to.new.self m.edges c.in_ok-moved.moved c.requires.well.program
-    (subst (λ (e : Effect). IsFilled c.args.pair.now e) is (inputs_filled k (state_of m) (left_of m)))
+    (subst (λ (e : Effect). IsFilled c.args.pair.now e) is (unmeasured_filled c.args.pair.now (set_inputs k (state_of m) (left_of m)) (inputs_filled k (state_of m) (left_of m))))
     c.in_ok-moved.ensures.proper c.requires.ready c.move_to.ensures.state

@@ -10,7 +10,7 @@ use Rattle.joint_ir.specs.Effects.{with_value}
 use Rattle.joint_ir.specs.WellFormed.{right_type}
 use Rattle.joint_value.specs.Answers.{IsSmall, CanOperate}
 use Rattle.joint_value.proofs.Nodes.{moved}
-use Rattle.joint_value.proofs.Numbers.{small_of}
+use Rattle.joint_value.proofs.Numbers.{small_of, width_of}
 use Rattle.joint_value.proofs.Ranges.{can_operate}
 use Rattle.joint_machine.specs.Moments.{setting}
 use Rattle.joint_machine.proofs.Flow.{finds_after, found_value}
@@ -59,3 +59,6 @@ returns c =
           (λ go. c.in_ok-right.ensures.finds (λ y s c'. with_value (binary_value u.op u.ty u.division u.other c.args.old y) c' (λ n. go n s c')))
           (found_value c.binary.result c.or_break.result (binary_value u.op u.ty u.division u.other c.args.old c.in_ok-right.right) c.args.self.now e c.or_break.ensures.number c.or_break.ensures.breaks);
     }
+
+pub binary-requires-clause-ty : goal.binary-requires-clause-ty
+binary-requires-clause-ty c = width_of c.args.update.now.ty (update_typed c.requires.fits.scope c.args.update.now c.requires.fits.holds)
