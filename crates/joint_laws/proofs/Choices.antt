@@ -13,7 +13,7 @@ use Rattle.joint_ir.specs.declared.program.Function.{Function}
 use Rattle.joint_ir.specs.declared.stmt.TStmt.{TStmt}
 use Rattle.joint_ir.specs.Views.{widths_of, site_widths, shown}
 use Rattle.joint_ir.specs.States.{JointState}
-use Rattle.joint_ir.specs.Effects.{Effect, Onward, Goes, Stops, TooFew, Next, Breaking, Continuing, Returning, then_do}
+use Rattle.joint_ir.specs.Effects.{Effect, Told, nothing, seen, drew, Onward, Goes, Stops, TooFew, Next, Breaking, Continuing, Returning, then_do}
 use Rattle.joint_ir.specs.Steps.{Calls, store_at, with_locals}
 use Rattle.joint_ir.specs.Statements.{set_params, closing, after_body, any_result, body_effect, entered_body, entered_function, is_below_limit, no_calls, calls_at}
 use Rattle.joint_ir.specs.Runs.{draw_registers, with_first_state, body_of, main_effect, ended, run_of}
@@ -34,14 +34,14 @@ closing_draws false None = λ j s c le. omega arith
 closing_draws false (Some t) = λ j s c le. draw_leaves j j t.bits c _ le (λ n rest le'. le')
 
 body_leaves : (j : ℕ) (is_main : Bool) (result : Option IntType) (locals : List (List ℤ)) (e : Effect) → Leaves (1 + j) e → Leaves j (after_body is_main result locals e)
-body_leaves j is_main result locals (Goes Returning s events c) h = omega arith
-body_leaves j is_main result locals (Goes Next s events c) h =
-    then_leaves j (1 + j) (Goes Next (with_locals s locals) events c) _ (omega arith) h (closing_draws is_main result j)
-body_leaves j is_main result locals (Goes Breaking s events c) h =
-    then_leaves j (1 + j) (Goes Next (with_locals s locals) events c) _ (omega arith) h (closing_draws is_main result j)
-body_leaves j is_main result locals (Goes Continuing s events c) h =
-    then_leaves j (1 + j) (Goes Next (with_locals s locals) events c) _ (omega arith) h (closing_draws is_main result j)
-body_leaves j is_main result locals (Stops o events c) h = tt
+body_leaves j is_main result locals (Goes Returning s told c) h = omega arith
+body_leaves j is_main result locals (Goes Next s told c) h =
+    then_leaves j (1 + j) (Goes Next (with_locals s locals) told c) _ (omega arith) h (closing_draws is_main result j)
+body_leaves j is_main result locals (Goes Breaking s told c) h =
+    then_leaves j (1 + j) (Goes Next (with_locals s locals) told c) _ (omega arith) h (closing_draws is_main result j)
+body_leaves j is_main result locals (Goes Continuing s told c) h =
+    then_leaves j (1 + j) (Goes Next (with_locals s locals) told c) _ (omega arith) h (closing_draws is_main result j)
+body_leaves j is_main result locals (Stops o told c) h = tt
 body_leaves j is_main result locals TooFew h = h
 
 any_draws : (result : Option IntType) → DrawsAtMost 1 (any_result result)
@@ -117,8 +117,8 @@ first_most : Pair → ℕ
 first_most pair = length pair.module.firsts + (length (widths_of Input pair.module.signals) + length (site_widths pair.module.settle_sites))
 
 ended_leaves : (e : Effect) → Leaves 0 e → Leaves 0 (ended e)
-ended_leaves (Goes way s events c) h = tt
-ended_leaves (Stops o events c) h = tt
+ended_leaves (Goes way s told c) h = tt
+ended_leaves (Stops o told c) h = tt
 ended_leaves TooFew h = h
 
 not_too_few : (e : Effect) → Leaves 0 e → e ≢ TooFew
@@ -135,10 +135,10 @@ first_leaves pair n c go le next =
     (λ registers c' h. draws_leave 0 (length sites + n) inputs c' _ (omega arith)
     (λ ns c'' h'. draws_leave 0 n sites c'' _ h' (λ unknown rest enough_left. next _ rest enough_left)))
 
-started_leaves : (n : ℕ) (s : JointState) (events : List Event) (c : List ℕ) (go : Onward) → DrawsAtMost n go → n ≤ length c →
-    Leaves 0 (ended (then_do (Goes Next s events c) go))
-started_leaves n s events c go h le =
-    ended_leaves (then_do (Goes Next s events c) go) (then_leaves 0 n (Goes Next s events c) go (omega arith) le (λ s' c' le'. h 0 s' c' (omega arith)))
+started_leaves : (n : ℕ) (s : JointState) (told : Told) (c : List ℕ) (go : Onward) → DrawsAtMost n go → n ≤ length c →
+    Leaves 0 (ended (then_do (Goes Next s told c) go))
+started_leaves n s told c go h le =
+    ended_leaves (then_do (Goes Next s told c) go) (then_leaves 0 n (Goes Next s told c) go (omega arith) le (λ s' c' le'. h 0 s' c' (omega arith)))
 
 pub enough : EnoughChoices
 enough pair b =
@@ -146,5 +146,5 @@ enough pair b =
     let x = main_bounded pair b (body_of (slice_get pair.program.functions pair.program.main)) in (
       first_most pair + x.most,
       λ choices le. not_too_few (run_of pair b choices)
-          (first_leaves pair x.most choices _ le (λ s c le'. started_leaves x.most s (Frame 0 (shown pair.module s.view) ∷ []) c go x.draws le')),
+          (first_leaves pair x.most choices _ le (λ s c le'. started_leaves x.most s (seen (Frame 0 (shown pair.module s.view))) c go x.draws le')),
     )

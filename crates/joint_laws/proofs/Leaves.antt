@@ -6,12 +6,12 @@ use Rattle.joint_ir.specs.declared.expr.TExpr.{TExpr}
 use Rattle.joint_ir.specs.declared.program.PropId.{PropId}
 use Rattle.joint_ir.specs.Values.{Answer, Value, Fault, Rows, value_of}
 use Rattle.joint_ir.specs.States.{JointState}
-use Rattle.joint_ir.specs.Effects.{Effect, Onward, Goes, Stops, TooFew, Next, Breaking, Continuing, Returning, preceded, then_do, after_turn, after_groups, check_then, with_value, with_values, draw, draw_all}
+use Rattle.joint_ir.specs.Effects.{Effect, Told, nothing, seen, drew, Onward, Goes, Stops, TooFew, Next, Breaking, Continuing, Returning, preceded, then_do, after_turn, after_groups, check_then, with_value, with_values, draw, draw_all}
 
 -- an effect goes on with at least k choices left, or ends the run
 abbrev pub Leaves : ℕ → Effect → Type 0
-Leaves k (Goes way s events c) = k ≤ length c
-Leaves k (Stops o events c) = Unit {0}
+Leaves k (Goes way s told c) = k ≤ length c
+Leaves k (Stops o told c) = Unit {0}
 Leaves k TooFew = ⊥
 
 -- a stretch draws at most n choices
@@ -24,40 +24,40 @@ pub record Bounded (f : Onward) : Type 0 where
   pub draws : DrawsAtMost most f
 
 pub fewer : (j k : ℕ) (e : Effect) → j ≤ k → Leaves k e → Leaves j e
-fewer j k (Goes way s events c) le h = omega arith
-fewer j k (Stops o events c) le h = tt
+fewer j k (Goes way s told c) le h = omega arith
+fewer j k (Stops o told c) le h = tt
 fewer j k TooFew le h = h
 
-leaves_preceded : (k : ℕ) (events : List Event) (e : Effect) → Leaves k e → Leaves k (preceded events e)
-leaves_preceded k events (Goes way s more c) h = h
-leaves_preceded k events (Stops o more c) h = tt
-leaves_preceded k events TooFew h = h
+leaves_preceded : (k : ℕ) (told : Told) (e : Effect) → Leaves k e → Leaves k (preceded told e)
+leaves_preceded k told (Goes way s more c) h = h
+leaves_preceded k told (Stops o more c) h = tt
+leaves_preceded k told TooFew h = h
 
 -- what goes on after an effect that leaves j choices
 pub then_leaves : (i j : ℕ) (e : Effect) (go : Onward) → i ≤ j → Leaves j e →
     ((s : JointState) (c : List ℕ) → j ≤ length c → Leaves i (go s c)) → Leaves i (then_do e go)
-then_leaves i j (Goes Next s events c) go le h next = leaves_preceded i events (go s c) (next s c h)
-then_leaves i j (Goes Breaking s events c) go le h next = omega arith
-then_leaves i j (Goes Continuing s events c) go le h next = omega arith
-then_leaves i j (Goes Returning s events c) go le h next = omega arith
-then_leaves i j (Stops o events c) go le h next = tt
+then_leaves i j (Goes Next s told c) go le h next = leaves_preceded i told (go s c) (next s c h)
+then_leaves i j (Goes Breaking s told c) go le h next = omega arith
+then_leaves i j (Goes Continuing s told c) go le h next = omega arith
+then_leaves i j (Goes Returning s told c) go le h next = omega arith
+then_leaves i j (Stops o told c) go le h next = tt
 then_leaves i j TooFew go le h next = h
 
 pub turn_leaves : (i j : ℕ) (e : Effect) (go : Onward) → i ≤ j → Leaves j e →
     ((s : JointState) (c : List ℕ) → j ≤ length c → Leaves i (go s c)) → Leaves i (after_turn e go)
-turn_leaves i j (Goes Next s events c) go le h next = leaves_preceded i events (go s c) (next s c h)
-turn_leaves i j (Goes Continuing s events c) go le h next = leaves_preceded i events (go s c) (next s c h)
-turn_leaves i j (Goes Breaking s events c) go le h next = omega arith
-turn_leaves i j (Goes Returning s events c) go le h next = omega arith
-turn_leaves i j (Stops o events c) go le h next = tt
+turn_leaves i j (Goes Next s told c) go le h next = leaves_preceded i told (go s c) (next s c h)
+turn_leaves i j (Goes Continuing s told c) go le h next = leaves_preceded i told (go s c) (next s c h)
+turn_leaves i j (Goes Breaking s told c) go le h next = omega arith
+turn_leaves i j (Goes Returning s told c) go le h next = omega arith
+turn_leaves i j (Stops o told c) go le h next = tt
 turn_leaves i j TooFew go le h next = h
 
 pub groups_leave : (k : ℕ) (e : Effect) → Leaves k e → Leaves k (after_groups e)
-groups_leave k (Goes Next s events c) h = h
-groups_leave k (Goes Breaking s events c) h = h
-groups_leave k (Goes Continuing s events c) h = h
-groups_leave k (Goes Returning s events c) h = h
-groups_leave k (Stops o events c) h = tt
+groups_leave k (Goes Next s told c) h = h
+groups_leave k (Goes Breaking s told c) h = h
+groups_leave k (Goes Continuing s told c) h = h
+groups_leave k (Goes Returning s told c) h = h
+groups_leave k (Stops o told c) h = tt
 groups_leave k TooFew h = h
 
 pub check_leaves : (k : ℕ) (p : Option PropId) (test : Bool) (c : List ℕ) (e : Effect) → Leaves k e → Leaves k (check_then p test c e)
@@ -78,7 +78,7 @@ values_leave k rows (e ∷ es) c go h =
 pub draw_leaves : (i j bits : ℕ) (c : List ℕ) (go : ℕ → List ℕ → Effect) → 1 + j ≤ length c →
     ((n : ℕ) (rest : List ℕ) → j ≤ length rest → Leaves i (go n rest)) → Leaves i (draw bits c go)
 draw_leaves i j bits [] go le next = absurd (omega arith)
-draw_leaves i j bits (n ∷ c) go le next = next (n % 2 ^ bits) c (omega arith)
+draw_leaves i j bits (n ∷ c) go le next = leaves_preceded i (drew bits) (go (n % 2 ^ bits) c) (next (n % 2 ^ bits) c (omega arith))
 
 pub draws_leave : (i j : ℕ) (widths c : List ℕ) (go : List ℕ → List ℕ → Effect) → length widths + j ≤ length c →
     ((ns rest : List ℕ) → j ≤ length rest → Leaves i (go ns rest)) → Leaves i (draw_all widths c go)

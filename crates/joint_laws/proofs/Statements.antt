@@ -21,7 +21,7 @@ use Rattle.joint_ir.specs.Types.{converted}
 use Rattle.joint_ir.specs.Values.{Answer, binary_value, value_of, is_zero}
 use Rattle.joint_ir.specs.Views.{widths_of, site_widths}
 use Rattle.joint_ir.specs.States.{JointState}
-use Rattle.joint_ir.specs.Effects.{Effect, Onward, Goes, Stops, Next, broken, with_value}
+use Rattle.joint_ir.specs.Effects.{Effect, Told, nothing, seen, drew, Onward, Goes, Stops, Next, broken, with_value}
 use Rattle.joint_ir.specs.Steps.{Setting, Calls, slot_type, element_of, rows_in, call_effect, with_init, with_index, within_bounds, right_value, store_at, store_effect, update_effect, free_elements, set_elements, declare_object, declare_var, return_effect, set_inputs, clock_edge, next_frame}
 use Rattle.joint_ir.specs.Statements.{tested, turns, loop_effect, at_entry, entered, after, after_row, after_other, after_loop, groups_from, after_group}
 use Rattle.joint_laws.proofs.Leaves.{Leaves, DrawsAtMost, Bounded, then_leaves, turn_leaves, groups_leave, check_leaves, value_leaves, values_leave, draw_leaves, draws_leave, then_draws, bounded_then}
@@ -169,10 +169,10 @@ module _ (k : Setting) where
 
     -- where a condition is 0 the run ends
     ends_draw : (e : TExpr) (end : List ℕ → Effect) → ((j : ℕ) (c : List ℕ) → Leaves j (end c)) →
-        DrawsAtMost 0 (λ s c. with_value (value_of (rows_in k s) e) c (λ n. if is_zero n then end c else Goes Next s [] c))
+        DrawsAtMost 0 (λ s c. with_value (value_of (rows_in k s) e) c (λ n. if is_zero n then end c else Goes Next s nothing c))
     ends_draw e end h = λ j s c le.
         let le' : j ≤ length c = omega arith in
-        value_leaves j (value_of (rows_in k s) e) c _ (λ n. if_leaves j (is_zero n) (end c) (Goes Next s [] c) (h j c) le')
+        value_leaves j (value_of (rows_in k s) e) c _ (λ n. if_leaves j (is_zero n) (end c) (Goes Next s nothing c) (h j c) le')
 
     -- the groups of a switch, wherever control enters them
     record GroupsBounded {m : _} (row : Row_of-Group m) : Type 0 where
@@ -204,7 +204,7 @@ module _ (k : Setting) where
       after_bounded p Continue = record { most = 0; draws = λ j s c le. omega arith }
       after_bounded p (Return init) = return_bounded init
       after_bounded p (Assert e prop) = record { most = 0; draws = ends_draw e (λ c. broken prop c) (λ k c. tt) }
-      after_bounded p (Assume e) = record { most = 0; draws = ends_draw e (λ c. Stops Cut [] c) (λ k c. tt) }
+      after_bounded p (Assume e) = record { most = 0; draws = ends_draw e (λ c. Stops Cut nothing c) (λ k c. tt) }
       after_bounded p SetInputs = inputs_bounded
       after_bounded p (NextFrame prop) = frame_draws prop
 

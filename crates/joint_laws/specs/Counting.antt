@@ -11,7 +11,7 @@ use Rattle.joint_ir.specs.Effects.{Stops}
 use Rattle.joint_ir.specs.Runs.{run_of}
 use Rattle.joint_ir.specs.WellFormed.{IsWellFormed}
 use Rattle.joint_laws.specs.Modules.{counter}
-use Rattle.joint_laws.specs.Words.{prop, number, member, compare, main_of, properties, a_member, pair_of, bounds_of, frame}
+use Rattle.joint_laws.specs.Words.{prop, number, member, compare, main_of, properties, a_member, pair_of, bounds_of, frame, told}
 
 -- `main` makes one clock edge and asserts that the counter is then n
 abbrev pub counting : ℕ → Pair
@@ -24,6 +24,6 @@ counting_program n = (counting n).program
 -- the pair is well-formed; with an assertion that holds its run ends, and with another one it breaks that
 pub record Examples : Type 0 where
   pub holds : IsWellFormed (counting 1)
-  pub ends : run_of (counting 1) (bounds_of 1 2) [] ≡ Stops Ended (frame 0 0 ∷ frame 1 1 ∷ []) []
+  pub ends : run_of (counting 1) (bounds_of 1 2) [] ≡ Stops Ended (told (frame 0 0 ∷ frame 1 1 ∷ []) []) []
   pub fails : IsWellFormed (counting 2)
-  pub breaks : run_of (counting 2) (bounds_of 1 2) [] ≡ Stops (Broken (prop 1)) (frame 0 0 ∷ frame 1 1 ∷ Broke (prop 1) ∷ []) []
+  pub breaks : run_of (counting 2) (bounds_of 1 2) [] ≡ Stops (Broken (prop 1)) (told (frame 0 0 ∷ frame 1 1 ∷ Broke (prop 1) ∷ []) []) []

@@ -27,6 +27,7 @@ use Rattle.joint_ir.specs.declared.stmt.SNode.{SNode, Block, Declare, Store, Upd
 use Rattle.joint_ir.specs.declared.stmt.TInit.TheVariants.{Values}
 use Rattle.joint_ir.specs.declared.stmt.TStmt.{TStmt}
 use Rattle.joint_ir.specs.declared.stmt.TTarget.{TTarget}
+use Rattle.joint_ir.specs.Effects.{Told}
 use Rattle.joint_ir.specs.Types.{int}
 
 abbrev pub here : Place
@@ -137,3 +138,7 @@ set x n = Stored 1 (Local x) None n
 -- a frame that shows one word, of the signal 1
 abbrev pub frame : (edges value : ℕ) → Event
 frame k n = Frame k ((record { signal = 1; word = 0; value = n }) ∷ [])
+
+-- these events are seen, and numbers of these widths are drawn
+abbrev pub told : List Event → (widths : List ℕ) → Told
+told events widths = record { events = events; widths = widths }

@@ -1,3 +1,4 @@
-pub mod Own
+pub mod Keeping
+pub mod Places
 pub mod Rows
 pub mod Shapes

@@ -1,6 +1,7 @@
 -- Which locals a function's body may change: its own, which stand one after another.
-use Rattle.std.specs.Prelude.{◌≡◌, ℕ, suc, ◌+◌, ◌<◌, ◌≤◌, List, [], ◌∷◌, All, max, length, take, drop, ℤ}
+use Rattle.std.specs.Prelude.{◌≡◌, ℕ, suc, ◌+◌, ◌<◌, ◌≤◌, List, [], ◌∷◌, ◌++◌, max, Option, Some, None, length, take, drop, ℤ}
 use Rattle.joint_ir.specs.declared.program.Function.{Function}
+use Rattle.joint_ir.specs.declared.stmt.Group.{Group, out-Group}
 use Rattle.joint_ir.specs.declared.stmt.TStmt.{TStmt}
 use Rattle.joint_ir.specs.States.{JointState}
 use Rattle.joint_ir.specs.Effects.{Effect, Goes, Stops, TooFew, Onward}
@@ -10,6 +11,20 @@ use Rattle.joint_ir.specs.WellFormed.{declared_in}
 abbrev pub behind_all : ℕ → List ℕ → ℕ
 behind_all n [] = n
 behind_all n (x ∷ xs) = behind_all (max n (suc x)) xs
+
+-- the places that the statements of a list declare, in text order; those of a statement that may be left out; and those of
+-- the groups of a switch
+abbrev pub declared_items : List TStmt → List ℕ
+declared_items [] = []
+declared_items (s ∷ rest) = declared_in s.node ++ declared_items rest
+
+abbrev pub declared_option : Option TStmt → List ℕ
+declared_option None = []
+declared_option (Some s) = declared_in s.node
+
+abbrev pub declared_cases : List Group → List ℕ
+declared_cases [] = []
+declared_cases (g ∷ rest) = declared_items (out-Group g).body ++ declared_cases rest
 
 -- the place behind a function's own objects: its parameters, and what its body declares
 abbrev pub own_end : Function → TStmt → ℕ

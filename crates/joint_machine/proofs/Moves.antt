@@ -51,7 +51,7 @@ IsFilled p (Goes way s told c) = s.store.members ≡ filled p s.view
 IsFilled p (Stops o told c) = Unit {0}
 IsFilled p TooFew = Unit {0}
 
-preceded_filled : (p : Pair) (a : Told) (e : Effect) → IsFilled p e → IsFilled p (preceded a e)
+pub preceded_filled : (p : Pair) (a : Told) (e : Effect) → IsFilled p e → IsFilled p (preceded a e)
 preceded_filled p a (Goes way s told c) h = h
 preceded_filled p a (Stops o told c) h = tt
 preceded_filled p a TooFew h = tt

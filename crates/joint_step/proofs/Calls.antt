@@ -10,16 +10,16 @@ use Rattle.joint_ir.specs.declared.pair.Pair.{Pair}
 use Rattle.joint_ir.specs.declared.program.Function.{Function}
 use Rattle.joint_ir.specs.declared.stmt.TStmt.{TStmt}
 use Rattle.src_text.specs.declared.refusal.Place.{Place}
-use Rattle.joint_ir.specs.States.{first_rows}
-use Rattle.joint_ir.specs.Effects.{Effect, Onward, Goes, Stops, TooFew, Next, Breaking, Continuing, Returning, preceded, then_do, broken}
+use Rattle.joint_ir.specs.Effects.{Effect, Onward, Told, nothing, joined, Goes, Stops, TooFew, Next, Breaking, Continuing, Returning, preceded, then_do, broken}
 use Rattle.joint_ir.specs.Steps.{Calls, with_locals}
 use Rattle.joint_ir.specs.Statements.{after, after_body, closing, set_params, any_result, body_effect, entered_body, entered_function, is_below_limit, recursion_prop, calls_at, no_calls}
+use Rattle.joint_view.specs.Halts.{only_seen, unmeasured}
 use Rattle.joint_view.specs.declared.halt.Halt.{Halt}
 use Rattle.joint_view.specs.declared.halt.Halt.TheVariants as halt
 use Rattle.joint_machine.specs.declared.machine.Machine.{Machine}
 use Rattle.joint_machine.specs.declared.machine.Way.{Way}
-use Rattle.joint_machine.specs.Moments.{state_of, left_of, way_of, Halts, from_here}
-use Rattle.joint_machine.proofs.Flow.{then_passes, then_halts, preceded_twice}
+use Rattle.joint_machine.specs.Moments.{state_of, left_of, told_of, way_of, Halts, from_here}
+use Rattle.joint_machine.proofs.Flow.{then_passes, then_halts, unmeasured_behind, unmeasured_law}
 use Rattle.joint_step.specs.Parts.{may_stand}
 
 -- more may stand where one may
@@ -28,7 +28,7 @@ stands_left zero below h = absurd (false≢true h)
 stands_left (suc left) below h = omega arith
 
 module _ (p : Pair) (b : Bounds) (f : ℕ) (place : Place) (args : List ℤ) where
-  pub calls_none : (left : ℕ) (standing : List ℕ) → slice_get p.program.functions f ≡ None → calls_at p b left standing place f args ≡ (λ s c. Goes Next s [] c)
+  pub calls_none : (left : ℕ) (standing : List ℕ) → slice_get p.program.functions f ≡ None → calls_at p b left standing place f args ≡ (λ s c. Goes Next s nothing c)
   calls_none zero standing is = ap (λ (o : Option Function). entered_function p b (λ fn. false) no_calls f o place args) is
   calls_none (suc left) standing is =
       ap (λ (o : Option Function). entered_function p b (is_below_limit p b standing f) (calls_at p b left (standing ++ f ∷ [])) f o place args) is
@@ -75,32 +75,39 @@ module _ (p : Pair) (b : Bounds) (f : ℕ) (place : Place) (args : List ℤ) whe
 
 -- ---- the end of a body
 
-module _ (is_main : Bool) (ty : Option IntType) (locals : List (List ℤ)) where
-  body_law : (a : List Event) (e : Effect) → preceded a (after_body is_main ty locals e) ≡ after_body is_main ty locals (preceded a e)
-  body_law a (Goes Returning s events c) = refl
-  body_law a (Goes Next s events c) = preceded_twice a events (closing is_main ty (with_locals s locals) c)
-  body_law a (Goes Breaking s events c) = preceded_twice a events (closing is_main ty (with_locals s locals) c)
-  body_law a (Goes Continuing s events c) = preceded_twice a events (closing is_main ty (with_locals s locals) c)
-  body_law a (Stops o events c) = refl
-  body_law a TooFew = refl
+-- what closes a body, behind what was seen of it
+behind : (es : List Event) (told : Told) (e : Effect) → preceded (only_seen es) (unmeasured (preceded told e)) ≡ unmeasured (preceded (joined (only_seen es) (only_seen told.events)) e)
+behind es told e =
+    unmeasured_behind (only_seen es) told e
+    ∙ sym (unmeasured_law (joined (only_seen es) (only_seen told.events)) e)
 
-  halts_body : (h : Halt) (m : Machine) (e : Effect) → Halts h m e → Halts h m (after_body is_main ty locals e)
-  halts_body (halt.Stop o) m e p = ap (λ (x : Effect). after_body is_main ty locals x) p
-  halts_body halt.TooFew m e p = ap (λ (x : Effect). after_body is_main ty locals x) p
+module _ (is_main : Bool) (ty : Option IntType) (locals : List (List ℤ)) where
+  body_law : (es : List Event) (e : Effect) →
+      preceded (only_seen es) (unmeasured (after_body is_main ty locals e)) ≡ unmeasured (after_body is_main ty locals (preceded (only_seen es) (unmeasured e)))
+  body_law es (Goes Returning s told c) = refl
+  body_law es (Goes Next s told c) = behind es told (closing is_main ty (with_locals s locals) c)
+  body_law es (Goes Breaking s told c) = behind es told (closing is_main ty (with_locals s locals) c)
+  body_law es (Goes Continuing s told c) = behind es told (closing is_main ty (with_locals s locals) c)
+  body_law es (Stops o told c) = refl
+  body_law es TooFew = refl
+
+  halts_body : (h : Halt) (m : Machine) (e : Effect) → Halts h m e → Halts h m (unmeasured (after_body is_main ty locals e))
+  halts_body (halt.Stop o) m e p = ap (λ (x : Effect). unmeasured (after_body is_main ty locals x)) p
+  halts_body halt.TooFew m e p = ap (λ (x : Effect). unmeasured (after_body is_main ty locals x)) p
   halts_body halt.Memory m e p = p
 
   -- an activation that came to its end, and its leave
-  pub body_left : (w : Way) (m : Machine) → after_body is_main ty locals (Goes (way_of w) (state_of m) m.events.items (left_of m)) ≡
-      from_here m (λ s c. after_body is_main ty locals (Goes (way_of w) s [] c))
+  pub body_left : (w : Way) (m : Machine) → unmeasured (after_body is_main ty locals (Goes (way_of w) (state_of m) (told_of m) (left_of m))) ≡
+      from_here m (λ s c. after_body is_main ty locals (Goes (way_of w) s nothing c))
   body_left w m =
-      ap (λ (es : List Event). after_body is_main ty locals (Goes (way_of w) (state_of m) es (left_of m))) (sym (append-nil m.events.items))
-      ∙ sym (body_law m.events.items (Goes (way_of w) (state_of m) [] (left_of m)))
+      ap (λ (es : List Event). unmeasured (after_body is_main ty locals (Goes (way_of w) (state_of m) (only_seen es) (left_of m)))) (sym (append-nil m.events.items))
+      ∙ sym (body_law m.events.items (Goes (way_of w) (state_of m) nothing (left_of m)))
 
 -- ---- a body that is entered
 
 module _ (p : Pair) (b : Bounds) (inner : Calls) (f : ℕ) (fn : Function) (body : TStmt) (place : Place) (args : List ℤ) (old mid : Machine) where
   abbrev beginning : Onward
-  beginning s c = set_params place.line fn.first args (with_locals s (first_rows p.program.locals)) c
+  beginning s c = set_params place.line fn.first args s c
 
   abbrev going : Onward
   going = after (record { pair = p; bounds = b; here = f }) inner body.place body.node
@@ -111,17 +118,17 @@ module _ (p : Pair) (b : Bounds) (inner : Calls) (f : ℕ) (fn : Function) (body
       (sym (body_law (eqb f p.program.main) fn.result old.store.locals old.events.items (then_do (beginning (state_of old) (left_of old)) going)))
       (halts_body (eqb f p.program.main) fn.result old.store.locals h mid (from_here old (λ s c. then_do (beginning s c) going)) (then_halts h old mid beginning going e))
 
-  module _ (begun : from_here old beginning ≡ Goes Next (state_of mid) mid.events.items (left_of mid)) where
-    entered_is : from_here old (body_effect p b inner f fn body place args) ≡ after_body (eqb f p.program.main) fn.result old.store.locals (from_here mid going)
+  module _ (begun : from_here old beginning ≡ Goes Next (state_of mid) (told_of mid) (left_of mid)) where
+    entered_is : from_here old (body_effect p b inner f fn body place args) ≡ unmeasured (after_body (eqb f p.program.main) fn.result old.store.locals (from_here mid going))
     entered_is =
         body_law (eqb f p.program.main) fn.result old.store.locals old.events.items (then_do (beginning (state_of old) (left_of old)) going)
-        ∙ ap (λ (x : Effect). after_body (eqb f p.program.main) fn.result old.store.locals x) (then_passes old mid beginning going begun)
+        ∙ ap (λ (x : Effect). unmeasured (after_body (eqb f p.program.main) fn.result old.store.locals x)) (then_passes old mid beginning going begun)
 
     pub going_halts : (h : Halt) (new : Machine) → Halts h new (from_here mid going) → Halts h new (from_here old (body_effect p b inner f fn body place args))
     going_halts h new e = subst (λ (x : Effect). Halts h new x) (sym entered_is) (halts_body (eqb f p.program.main) fn.result old.store.locals h new (from_here mid going) e)
 
-    pub going_done : (w : Way) (new : Machine) → from_here mid going ≡ Goes (way_of w) (state_of new) new.events.items (left_of new) →
+    pub going_done : (w : Way) (new : Machine) → from_here mid going ≡ Goes (way_of w) (state_of new) (told_of new) (left_of new) →
         from_here old (body_effect p b inner f fn body place args) ≡
-        from_here new (λ s c. after_body (eqb f p.program.main) fn.result old.store.locals (Goes (way_of w) s [] c))
+        from_here new (λ s c. after_body (eqb f p.program.main) fn.result old.store.locals (Goes (way_of w) s nothing c))
     going_done w new e =
-        entered_is ∙ ap (λ (x : Effect). after_body (eqb f p.program.main) fn.result old.store.locals x) e ∙ body_left (eqb f p.program.main) fn.result old.store.locals w new
+        entered_is ∙ ap (λ (x : Effect). unmeasured (after_body (eqb f p.program.main) fn.result old.store.locals x)) e ∙ body_left (eqb f p.program.main) fn.result old.store.locals w new

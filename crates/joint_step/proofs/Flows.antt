@@ -1,5 +1,5 @@
 -- How a machine's stretches follow one another, where a stretch may leave a list, a loop or a switch.
-use Rattle.std.proofs.Common.{◌≡◌, ◌+◌, ◌<◌, ◌≤◌, ℕ, zero, suc, Bool, false, List, [], ◌∷◌, length, drop, refl, sym, ap, subst, ◌∙◌}
+use Rattle.std.proofs.Common.{◌≡◌, ◌+◌, ◌<◌, ◌≤◌, ℕ, zero, suc, Bool, false, List, ◌∷◌, length, drop, refl, sym, ap, subst, ◌∙◌}
 use Rattle.std.specs.Prelude.{ℤ, pos, negsuc, Option, Some, None, Result, Ok, Err, IfOk, get_or, if◌then◌else◌}
 use Rattle.std.proofs.lemmas.List.{append-nil, drop_more, at_drop_all}
 use Rattle.joint_ir.specs.declared.expr.TExpr.{TExpr}
@@ -9,16 +9,18 @@ use Rattle.joint_ir.specs.declared.program.PropId.{PropId}
 use Rattle.joint_ir.specs.declared.stmt.Group.{Group, out-Group}
 use Rattle.joint_ir.specs.declared.stmt.TStmt.{TStmt}
 use Rattle.joint_ir.specs.Values.{Answer, Value, Fault, value_of, is_zero}
-use Rattle.joint_ir.specs.Effects.{Effect, Onward, Goes, Next, Returning, then_do, after_groups, with_value}
+use Rattle.joint_ir.specs.Effects.{Effect, Onward, nothing, Goes, Next, Returning, then_do, after_groups, with_value}
 use Rattle.joint_ir.specs.Steps.{Setting, Calls, rows_in, returning}
 use Rattle.joint_ir.specs.Statements.{after, at_entry}
+use Rattle.joint_ir.specs.declared.event.Event.{Event}
+use Rattle.joint_view.specs.Halts.{only_seen}
 use Rattle.joint_view.specs.declared.halt.Halt.{Halt}
 use Rattle.joint_view.specs.declared.halt.Halt.TheVariants as halt
 use Rattle.joint_machine.specs.declared.machine.Machine.{Machine}
 use Rattle.joint_machine.specs.declared.machine.Way.{Way}
 use Rattle.joint_machine.specs.declared.machine.Way.TheVariants as way
-use Rattle.joint_machine.specs.Moments.{state_of, left_of, way_of, Halts, Shows, Does, IsKept, IsReady, from_here}
-use Rattle.joint_machine.proofs.Flow.{then_law, groups_law, then_passes, then_halts, halts_groups, nothing_done}
+use Rattle.joint_machine.specs.Moments.{state_of, left_of, told_of, way_of, Halts, Shows, Does, IsKept, IsReady, from_here}
+use Rattle.joint_machine.proofs.Flow.{onward, then_law, groups_law, then_passes, then_halts, halts_groups, nothing_done}
 use Rattle.joint_lists.specs.Lists.{after_items, after_option, after_cases, entered_case}
 use Rattle.joint_lists.proofs.Rows.{chosen, switched}
 use Rattle.joint_step.specs.Parts.{other_way}
@@ -91,7 +93,7 @@ module _ (k : Setting) (calls : Calls) (m : Machine) (e : TExpr) (groups : List 
   from_entry n s c = at_entry (entered_case n groups) (λ i. after_cases k calls (drop i groups)) s c
 
   pub switch_none : (n : ℤ) → value_of (rows_in k (state_of m)) e ≡ Value n → entered_case n groups ≡ None →
-      from_here m (switched k calls e groups) ≡ Goes Next (state_of m) m.events.items (left_of m)
+      from_here m (switched k calls e groups) ≡ Goes Next (state_of m) (told_of m) (left_of m)
   switch_none n is none =
       value_goes m (value_of (rows_in k (state_of m)) e) n from_entry is
       ∙ ap (λ (o : Option ℕ). from_here m (λ s c. at_entry o (λ i. after_cases k calls (drop i groups)) s c)) none
@@ -109,21 +111,21 @@ module _ (k : Setting) (calls : Calls) (m : Machine) (e : TExpr) (groups : List 
   switch_halts h p is fault = value_halts h m (value_of (rows_in k (state_of m)) e) p from_entry is fault
 
 -- behind the groups: `break` leaves the switch
-pub groups_done : (w : Way) (old new : Machine) (f : Onward) → from_here old f ≡ Goes (way_of w) (state_of new) new.events.items (left_of new) →
-    from_here old (λ s c. after_groups (f s c)) ≡ after_groups (Goes (way_of w) (state_of new) new.events.items (left_of new))
-groups_done w old new f e = groups_law old.events.items (f (state_of old) (left_of old)) ∙ ap (λ (x : Effect). after_groups x) e
+pub groups_done : (w : Way) (old new : Machine) (f : Onward) → from_here old f ≡ Goes (way_of w) (state_of new) (told_of new) (left_of new) →
+    from_here old (λ s c. after_groups (f s c)) ≡ after_groups (Goes (way_of w) (state_of new) (told_of new) (left_of new))
+groups_done w old new f e = groups_law (told_of old) (f (state_of old) (left_of old)) ∙ ap (λ (x : Effect). after_groups x) e
 
 pub groups_halt : (h : Halt) (old new : Machine) (f : Onward) → Halts h new (from_here old f) → Halts h new (from_here old (λ s c. after_groups (f s c)))
 groups_halt h old new f p =
-    subst (λ (x : Effect). Halts h new x) (sym (groups_law old.events.items (f (state_of old) (left_of old)))) (halts_groups h new (from_here old f) p)
+    subst (λ (x : Effect). Halts h new x) (sym (groups_law (told_of old) (f (state_of old) (left_of old)))) (halts_groups h new (from_here old f) p)
 
 -- ---- a return
 
 pub returned_gone : (m : Machine) (v w : ℤ) → v ≡ w →
-    from_here m (λ s c. Goes Returning (returning s v) [] c) ≡ Goes Returning (returning (state_of m) w) m.events.items (left_of m)
+    from_here m (λ s c. Goes Returning (returning s v) nothing c) ≡ Goes Returning (returning (state_of m) w) (told_of m) (left_of m)
 returned_gone m v w is =
-    ap (λ es. Goes Returning (returning (state_of m) v) es (left_of m)) (append-nil m.events.items)
-    ∙ ap (λ (x : ℤ). Goes Returning (returning (state_of m) x) m.events.items (left_of m)) is
+    ap (λ (es : List Event). Goes Returning (returning (state_of m) v) (only_seen es) (left_of m)) (append-nil m.events.items)
+    ∙ ap (λ (x : ℤ). Goes Returning (returning (state_of m) x) (told_of m) (left_of m)) is
 
 -- ---- what follows a stretch that goes another way
 
@@ -136,21 +138,21 @@ way_or d None = d
 way_or d (Some w) = w
 
 pub then_leaves : (w v : Way) (old new : Machine) (f go : Onward) → other_way w ≡ Some v →
-    from_here old f ≡ Goes (way_of w) (state_of new) new.events.items (left_of new) →
-    from_here old (λ s c. then_do (f s c) go) ≡ Goes (way_of v) (state_of new) new.events.items (left_of new)
+    from_here old f ≡ Goes (way_of w) (state_of new) (told_of new) (left_of new) →
+    from_here old (λ s c. then_do (f s c) go) ≡ Goes (way_of v) (state_of new) (told_of new) (left_of new)
 then_leaves way.Next v old new f go other e = absurd (subst is_there (sym other) tt)
 then_leaves way.Breaking v old new f go other e =
-    then_law old.events.items (f (state_of old) (left_of old)) go ∙ ap (λ (x : Effect). then_do x go) e
-    ∙ ap (λ (u : Way). Goes (way_of u) (state_of new) new.events.items (left_of new)) (ap (way_or v) other)
+    then_law (told_of old) (f (state_of old) (left_of old)) go ∙ ap (λ (x : Effect). then_do x (onward go)) e
+    ∙ ap (λ (u : Way). Goes (way_of u) (state_of new) (told_of new) (left_of new)) (ap (way_or v) other)
 then_leaves way.Continuing v old new f go other e =
-    then_law old.events.items (f (state_of old) (left_of old)) go ∙ ap (λ (x : Effect). then_do x go) e
-    ∙ ap (λ (u : Way). Goes (way_of u) (state_of new) new.events.items (left_of new)) (ap (way_or v) other)
+    then_law (told_of old) (f (state_of old) (left_of old)) go ∙ ap (λ (x : Effect). then_do x (onward go)) e
+    ∙ ap (λ (u : Way). Goes (way_of u) (state_of new) (told_of new) (left_of new)) (ap (way_or v) other)
 then_leaves way.Returning v old new f go other e =
-    then_law old.events.items (f (state_of old) (left_of old)) go ∙ ap (λ (x : Effect). then_do x go) e
-    ∙ ap (λ (u : Way). Goes (way_of u) (state_of new) new.events.items (left_of new)) (ap (way_or v) other)
+    then_law (told_of old) (f (state_of old) (left_of old)) go ∙ ap (λ (x : Effect). then_do x (onward go)) e
+    ∙ ap (λ (u : Way). Goes (way_of u) (state_of new) (told_of new) (left_of new)) (ap (way_or v) other)
 
-pub passes_next : (w : Way) (old new : Machine) (f : Onward) → other_way w ≡ None → from_here old f ≡ Goes (way_of w) (state_of new) new.events.items (left_of new) →
-    from_here old f ≡ Goes Next (state_of new) new.events.items (left_of new)
+pub passes_next : (w : Way) (old new : Machine) (f : Onward) → other_way w ≡ None → from_here old f ≡ Goes (way_of w) (state_of new) (told_of new) (left_of new) →
+    from_here old f ≡ Goes Next (state_of new) (told_of new) (left_of new)
 passes_next way.Next old new f is e = e
 passes_next way.Breaking old new f is e = absurd (subst is_there is tt)
 passes_next way.Continuing old new f is e = absurd (subst is_there is tt)
@@ -163,13 +165,13 @@ module _ (k : Setting) (calls : Calls) (items : List TStmt) (i : ℕ) (x : TStmt
   items_now : from_here old (after_items k calls items) ≡ from_here m (λ s c. then_do (after k calls x.place x.node s c) (after_items k calls (drop (i + 1) items)))
   items_now = so_far ∙ ap (λ (l : List TStmt). from_here m (after_items k calls l)) (drop_more items i x lt ∙ ap (λ y. y ∷ drop (i + 1) items) (sym is))
 
-  pub items_step : (w : Way) (new : Machine) → other_way w ≡ None → from_here m (after k calls x.place x.node) ≡ Goes (way_of w) (state_of new) new.events.items (left_of new) →
+  pub items_step : (w : Way) (new : Machine) → other_way w ≡ None → from_here m (after k calls x.place x.node) ≡ Goes (way_of w) (state_of new) (told_of new) (left_of new) →
       from_here old (after_items k calls items) ≡ from_here new (after_items k calls (drop (i + 1) items))
   items_step w new next e =
       items_now ∙ then_passes m new (after k calls x.place x.node) (after_items k calls (drop (i + 1) items)) (passes_next w m new (after k calls x.place x.node) next e)
 
-  pub items_leave : (w v : Way) (new : Machine) → other_way w ≡ Some v → from_here m (after k calls x.place x.node) ≡ Goes (way_of w) (state_of new) new.events.items (left_of new) →
-      from_here old (after_items k calls items) ≡ Goes (way_of v) (state_of new) new.events.items (left_of new)
+  pub items_leave : (w v : Way) (new : Machine) → other_way w ≡ Some v → from_here m (after k calls x.place x.node) ≡ Goes (way_of w) (state_of new) (told_of new) (left_of new) →
+      from_here old (after_items k calls items) ≡ Goes (way_of v) (state_of new) (told_of new) (left_of new)
   items_leave w v new other e = items_now ∙ then_leaves w v m new (after k calls x.place x.node) (after_items k calls (drop (i + 1) items)) other e
 
   pub items_halt : (h : Halt) (new : Machine) → Halts h new (from_here m (after k calls x.place x.node)) → Halts h new (from_here old (after_items k calls items))
@@ -178,7 +180,7 @@ module _ (k : Setting) (calls : Calls) (items : List TStmt) (i : ℕ) (x : TStmt
 
 pub items_done : (k : Setting) (calls : Calls) (items : List TStmt) (i : ℕ) (old m : Machine) → length items ≤ i →
     from_here old (after_items k calls items) ≡ from_here m (after_items k calls (drop i items)) →
-    from_here old (after_items k calls items) ≡ Goes Next (state_of m) m.events.items (left_of m)
+    from_here old (after_items k calls items) ≡ Goes Next (state_of m) (told_of m) (left_of m)
 items_done k calls items i old m le so_far = so_far ∙ at_drop_all (λ (l : List TStmt). from_here m (after_items k calls l)) items i le ∙ nothing_done m
 
 -- ---- the groups of a switch, one after another
@@ -189,13 +191,13 @@ module _ (k : Setting) (calls : Calls) (groups : List Group) (from i : ℕ) (g :
   cases_now = so_far ∙ ap (λ (l : List Group). from_here m (after_cases k calls l)) (drop_more groups i g lt ∙ ap (λ y. y ∷ drop (i + 1) groups) (sym is))
       ∙ ap (λ (l : List TStmt). from_here m (λ s c. then_do (after_items k calls l s c) (after_cases k calls (drop (i + 1) groups)))) (sym its)
 
-  pub cases_step : (w : Way) (new : Machine) → other_way w ≡ None → from_here m (after_items k calls body) ≡ Goes (way_of w) (state_of new) new.events.items (left_of new) →
+  pub cases_step : (w : Way) (new : Machine) → other_way w ≡ None → from_here m (after_items k calls body) ≡ Goes (way_of w) (state_of new) (told_of new) (left_of new) →
       from_here old (after_cases k calls (drop from groups)) ≡ from_here new (after_cases k calls (drop (i + 1) groups))
   cases_step w new next e =
       cases_now ∙ then_passes m new (after_items k calls body) (after_cases k calls (drop (i + 1) groups)) (passes_next w m new (after_items k calls body) next e)
 
-  pub cases_leave : (w v : Way) (new : Machine) → other_way w ≡ Some v → from_here m (after_items k calls body) ≡ Goes (way_of w) (state_of new) new.events.items (left_of new) →
-      from_here old (after_cases k calls (drop from groups)) ≡ Goes (way_of v) (state_of new) new.events.items (left_of new)
+  pub cases_leave : (w v : Way) (new : Machine) → other_way w ≡ Some v → from_here m (after_items k calls body) ≡ Goes (way_of w) (state_of new) (told_of new) (left_of new) →
+      from_here old (after_cases k calls (drop from groups)) ≡ Goes (way_of v) (state_of new) (told_of new) (left_of new)
   cases_leave w v new other e = cases_now ∙ then_leaves w v m new (after_items k calls body) (after_cases k calls (drop (i + 1) groups)) other e
 
   pub cases_halt : (h : Halt) (new : Machine) → Halts h new (from_here m (after_items k calls body)) → Halts h new (from_here old (after_cases k calls (drop from groups)))
@@ -204,5 +206,5 @@ module _ (k : Setting) (calls : Calls) (groups : List Group) (from i : ℕ) (g :
 
 pub cases_done : (k : Setting) (calls : Calls) (groups : List Group) (from i : ℕ) (old m : Machine) → length groups ≤ i →
     from_here old (after_cases k calls (drop from groups)) ≡ from_here m (after_cases k calls (drop i groups)) →
-    from_here old (after_cases k calls (drop from groups)) ≡ Goes Next (state_of m) m.events.items (left_of m)
+    from_here old (after_cases k calls (drop from groups)) ≡ Goes Next (state_of m) (told_of m) (left_of m)
 cases_done k calls groups from i old m le so_far = so_far ∙ at_drop_all (λ (l : List Group). from_here m (after_cases k calls l)) groups i le ∙ nothing_done m

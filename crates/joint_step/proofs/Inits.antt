@@ -19,7 +19,7 @@ use Rattle.joint_ir.specs.declared.stmt.SNode.{Return}
 use Rattle.joint_ir.specs.declared.stmt.TStmt.{TStmt}
 use Rattle.joint_ir.specs.declared.stmt.TTarget.{TTarget}
 use Rattle.joint_ir.specs.Types.{IsType, Single}
-use Rattle.joint_ir.specs.Effects.{Effect, Onward, Goes, Next}
+use Rattle.joint_ir.specs.Effects.{Effect, Onward, nothing, Goes, Next}
 use Rattle.joint_ir.specs.Steps.{Setting, Calls, store_effect, store_at, with_init, with_index, within_bounds, slot_type, type_or_int, result_of, declare_effect, declare_var, declare_object, declare_array}
 use Rattle.joint_ir.specs.WellFormed.{Scope, FitsExpr, FitsArgs, FitsCall, FitsInit, FitsIndex, FitsTarget, FitsDeclare, FitsObject, FitsElements, FitsBody, FitsReturn, FitsStmt, HasProp, IsWellFormed, scope_of}
 use Rattle.joint_view.specs.declared.halt.Halt.{Halt}
@@ -74,7 +74,7 @@ var_or d None = d
 var_or d (Some v) = v
 
 module _ (k : Setting) (calls : Calls) (line x : ℕ) (init : TInit) where
-  pub declares_none : slice_get k.pair.program.locals x ≡ None → declare_effect k calls line x init ≡ (λ s c. Goes Next s [] c)
+  pub declares_none : slice_get k.pair.program.locals x ≡ None → declare_effect k calls line x init ≡ (λ s c. Goes Next s nothing c)
   declares_none is = ap (λ (o : Option Var). declare_var k calls line x o init) is
 
   object_is : (t : IntType) (n : ℕ) → n ≤ 0 → declare_object k calls line x t n init ≡ (λ s c. with_init k calls t init s c (store_at line (Local x) None))
@@ -168,7 +168,7 @@ module _ (p : Pair) (f : ℕ) (fn : Function) (w : IsWellFormed p) (is : slice_g
   result_typed = (w.program.functions f fn is).result
 
   module _ (body : TStmt) (some : fn.body ≡ Some body) where
-    body_fits : FitsBody p.program f fn (Some body)
+    pub body_fits : FitsBody p.program f fn (Some body)
     body_fits = subst (FitsBody p.program f fn) some (w.program.functions f fn is).body
 
     pub few_params : (ns : List ℤ) → Takes p.program fn ns → fn.first + length ns < 2 ^ 32

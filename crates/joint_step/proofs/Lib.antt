@@ -7,3 +7,4 @@ mod Runs
 mod Standing
 mod Strides
 mod Turns
+pub mod Restored

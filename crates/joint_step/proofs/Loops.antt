@@ -1,12 +1,12 @@
 -- A loop, turn by turn.
-use Rattle.std.proofs.Common.{◌≡◌, ◌+◌, ◌-◌, ◌<◌, ◌≤◌, ℕ, suc, Bool, true, false, [], refl, sym, ap, subst, ◌∙◌, arith}
+use Rattle.std.proofs.Common.{◌≡◌, ◌+◌, ◌-◌, ◌<◌, ◌≤◌, ℕ, suc, Bool, true, false, refl, sym, ap, subst, ◌∙◌, arith}
 use Rattle.std.specs.Prelude.{Some, None, if◌then◌else◌}
 use Rattle.joint_ir.specs.declared.event.Outcome.TheVariants.{Broken}
 use Rattle.joint_ir.specs.declared.program.PropId.{PropId}
 use Rattle.joint_ir.specs.declared.stmt.TLoop.{TLoop, out-TLoop}
 use Rattle.joint_ir.specs.Values.{Answer, is_zero}
 use Rattle.joint_ir.specs.States.{JointState}
-use Rattle.joint_ir.specs.Effects.{Effect, Onward, Goes, Next, then_do, after_turn, with_value}
+use Rattle.joint_ir.specs.Effects.{Effect, Onward, nothing, Goes, Next, then_do, after_turn, with_value}
 use Rattle.joint_ir.specs.Steps.{Setting, Calls, rows_in, limit_of}
 use Rattle.joint_ir.specs.Statements.{after, after_loop, loop_effect, turns, tested, condition_value}
 use Rattle.joint_view.specs.declared.halt.Halt.{Halt}
@@ -14,8 +14,8 @@ use Rattle.joint_view.specs.declared.halt.Halt.TheVariants as halt
 use Rattle.joint_machine.specs.declared.machine.Machine.{Machine}
 use Rattle.joint_machine.specs.declared.machine.Way.{Way}
 use Rattle.joint_machine.specs.declared.machine.Way.TheVariants as way
-use Rattle.joint_machine.specs.Moments.{state_of, left_of, way_of, Halts, from_here}
-use Rattle.joint_machine.proofs.Flow.{turn_law, then_passes, then_halts, halts_turn, nothing_done}
+use Rattle.joint_machine.specs.Moments.{state_of, left_of, told_of, way_of, Halts, from_here}
+use Rattle.joint_machine.proofs.Flow.{onward, turn_law, then_passes, then_halts, halts_turn, nothing_done}
 use Rattle.joint_lists.specs.Lists.{after_items, after_option}
 use Rattle.joint_lists.proofs.Rows.{after-loop}
 use Rattle.joint_step.specs.Parts.{turn_left, other_way, first_tested}
@@ -24,31 +24,31 @@ use Rattle.joint_step.proofs.Turns.{loop_turns}
 
 -- ---- ways behind a turn
 
-turn_goes : (w : Way) (m new : Machine) (f go : Onward) → turn_left w ≡ None → from_here m f ≡ Goes (way_of w) (state_of new) new.events.items (left_of new) →
+turn_goes : (w : Way) (m new : Machine) (f go : Onward) → turn_left w ≡ None → from_here m f ≡ Goes (way_of w) (state_of new) (told_of new) (left_of new) →
     from_here m (λ s c. after_turn (f s c) go) ≡ from_here new go
-turn_goes way.Next m new f go stays e = turn_law m.events.items (f (state_of m) (left_of m)) go ∙ ap (λ (x : Effect). after_turn x go) e
-turn_goes way.Continuing m new f go stays e = turn_law m.events.items (f (state_of m) (left_of m)) go ∙ ap (λ (x : Effect). after_turn x go) e
+turn_goes way.Next m new f go stays e = turn_law (told_of m) (f (state_of m) (left_of m)) go ∙ ap (λ (x : Effect). after_turn x (onward go)) e
+turn_goes way.Continuing m new f go stays e = turn_law (told_of m) (f (state_of m) (left_of m)) go ∙ ap (λ (x : Effect). after_turn x (onward go)) e
 turn_goes way.Breaking m new f go stays e = absurd (subst is_there stays tt)
 turn_goes way.Returning m new f go stays e = absurd (subst is_there stays tt)
 
-turn_leaves : (w v : Way) (m new : Machine) (f go : Onward) → turn_left w ≡ Some v → from_here m f ≡ Goes (way_of w) (state_of new) new.events.items (left_of new) →
-    from_here m (λ s c. after_turn (f s c) go) ≡ Goes (way_of v) (state_of new) new.events.items (left_of new)
+turn_leaves : (w v : Way) (m new : Machine) (f go : Onward) → turn_left w ≡ Some v → from_here m f ≡ Goes (way_of w) (state_of new) (told_of new) (left_of new) →
+    from_here m (λ s c. after_turn (f s c) go) ≡ Goes (way_of v) (state_of new) (told_of new) (left_of new)
 turn_leaves way.Next v m new f go leaves e = absurd (subst is_there (sym leaves) tt)
 turn_leaves way.Continuing v m new f go leaves e = absurd (subst is_there (sym leaves) tt)
 turn_leaves way.Breaking v m new f go leaves e =
-    turn_law m.events.items (f (state_of m) (left_of m)) go ∙ ap (λ (x : Effect). after_turn x go) e
-    ∙ ap (λ (u : Way). Goes (way_of u) (state_of new) new.events.items (left_of new)) (ap (way_or v) leaves)
+    turn_law (told_of m) (f (state_of m) (left_of m)) go ∙ ap (λ (x : Effect). after_turn x (onward go)) e
+    ∙ ap (λ (u : Way). Goes (way_of u) (state_of new) (told_of new) (left_of new)) (ap (way_or v) leaves)
 turn_leaves way.Returning v m new f go leaves e =
-    turn_law m.events.items (f (state_of m) (left_of m)) go ∙ ap (λ (x : Effect). after_turn x go) e
-    ∙ ap (λ (u : Way). Goes (way_of u) (state_of new) new.events.items (left_of new)) (ap (way_or v) leaves)
+    turn_law (told_of m) (f (state_of m) (left_of m)) go ∙ ap (λ (x : Effect). after_turn x (onward go)) e
+    ∙ ap (λ (u : Way). Goes (way_of u) (state_of new) (told_of new) (left_of new)) (ap (way_or v) leaves)
 
 turn_halts : (h : Halt) (m new : Machine) (f go : Onward) → Halts h new (from_here m f) → Halts h new (from_here m (λ s c. after_turn (f s c) go))
-turn_halts h m new f go p = subst (λ (x : Effect). Halts h new x) (sym (turn_law m.events.items (f (state_of m) (left_of m)) go)) (halts_turn h new (from_here m f) go p)
+turn_halts h m new f go p = subst (λ (x : Effect). Halts h new x) (sym (turn_law (told_of m) (f (state_of m) (left_of m)) go)) (halts_turn h new (from_here m f) (onward go) p)
 
 -- ---- the beginning
 
 first_is : (t : Bool) (n : ℕ) (test : JointState → Answer) (body step : Onward) (p : PropId) →
-    loop_effect t n test body step p ≡ (λ s c. first_tested t (test s) c (λ b. if b then Goes Next s [] c else turns n test body step p s c))
+    loop_effect t n test body step p ≡ (λ s c. first_tested t (test s) c (λ b. if b then Goes Next s nothing c else turns n test body step p s c))
 first_is true n test body step p = refl
 first_is false n test body step p = refl
 
@@ -67,21 +67,21 @@ module _ (k : Setting) (calls : Calls) (l : TLoop) where
 
   -- what is left behind a test, which tells whether the loop stops
   abbrev pub unless : Bool → (n : ℕ) → Onward
-  unless b n s c = if b then Goes Next s [] c else loop_turns k calls l n s c
+  unless b n s c = if b then Goes Next s nothing c else loop_turns k calls l n s c
 
   module _ (old mid : Machine) where
     abbrev whole : Onward
     whole = loop_effect (out-TLoop l).tests_first (limit_of k.bounds (out-TLoop l).unwind) test_of body_of step_of (out-TLoop l).unwind
 
-    pub heads_leave : (w v : Way) → other_way w ≡ Some v → from_here old (after_items k calls (out-TLoop l).heads) ≡ Goes (way_of w) (state_of mid) mid.events.items (left_of mid) →
-        from_here old (after_loop k calls l) ≡ Goes (way_of v) (state_of mid) mid.events.items (left_of mid)
+    pub heads_leave : (w v : Way) → other_way w ≡ Some v → from_here old (after_items k calls (out-TLoop l).heads) ≡ Goes (way_of w) (state_of mid) (told_of mid) (left_of mid) →
+        from_here old (after_loop k calls l) ≡ Goes (way_of v) (state_of mid) (told_of mid) (left_of mid)
     heads_leave w v other e = ap (from_here old) (after-loop k calls l) ∙ then_leaves w v old mid (after_items k calls (out-TLoop l).heads) whole other e
 
     pub heads_halt : (h : Halt) → Halts h mid (from_here old (after_items k calls (out-TLoop l).heads)) → Halts h mid (from_here old (after_loop k calls l))
     heads_halt h p =
         subst (λ (x : Effect). Halts h mid x) (sym (ap (from_here old) (after-loop k calls l))) (then_halts h old mid (after_items k calls (out-TLoop l).heads) whole p)
 
-    module _ (w : Way) (next : other_way w ≡ None) (e : from_here old (after_items k calls (out-TLoop l).heads) ≡ Goes (way_of w) (state_of mid) mid.events.items (left_of mid)) where
+    module _ (w : Way) (next : other_way w ≡ None) (e : from_here old (after_items k calls (out-TLoop l).heads) ≡ Goes (way_of w) (state_of mid) (told_of mid) (left_of mid)) where
       heads_pass : from_here old (after_loop k calls l) ≡
           from_here mid (λ s c. first_tested (out-TLoop l).tests_first (test_of s) c (λ b. unless b (limit_of k.bounds (out-TLoop l).unwind) s c))
       heads_pass =
@@ -97,7 +97,7 @@ module _ (k : Setting) (calls : Calls) (l : TLoop) where
 
       pub loop_stops : (b : Bool) → b ≡ true →
           ((go : Bool → Onward) → from_here mid (λ s c. first_tested (out-TLoop l).tests_first (test_of s) c (λ b. go b s c)) ≡ from_here mid (go b)) →
-          from_here old (after_loop k calls l) ≡ Goes Next (state_of mid) mid.events.items (left_of mid)
+          from_here old (after_loop k calls l) ≡ Goes Next (state_of mid) (told_of mid) (left_of mid)
       loop_stops b stops found =
           heads_pass ∙ found (λ b. unless b (limit_of k.bounds (out-TLoop l).unwind)) ∙ ap (λ (x : Bool). from_here mid (unless x (limit_of k.bounds (out-TLoop l).unwind))) stops
           ∙ nothing_done mid
@@ -122,11 +122,11 @@ module _ (k : Setting) (calls : Calls) (l : TLoop) where
     pub body_halts : (h : Halt) (new : Machine) → Halts h new (from_here m body_of) → Halts h new (from_here old (after_loop k calls l))
     body_halts h new p = subst (λ (x : Effect). Halts h new x) (sym turn_now) (turn_halts h m new body_of behind p)
 
-    pub body_leaves : (w v : Way) (new : Machine) → turn_left w ≡ Some v → from_here m body_of ≡ Goes (way_of w) (state_of new) new.events.items (left_of new) →
-        from_here old (after_loop k calls l) ≡ Goes (way_of v) (state_of new) new.events.items (left_of new)
+    pub body_leaves : (w v : Way) (new : Machine) → turn_left w ≡ Some v → from_here m body_of ≡ Goes (way_of w) (state_of new) (told_of new) (left_of new) →
+        from_here old (after_loop k calls l) ≡ Goes (way_of v) (state_of new) (told_of new) (left_of new)
     body_leaves w v new leaves e = turn_now ∙ turn_leaves w v m new body_of behind leaves e
 
-    module _ (w : Way) (mid : Machine) (stays : turn_left w ≡ None) (e : from_here m body_of ≡ Goes (way_of w) (state_of mid) mid.events.items (left_of mid)) where
+    module _ (w : Way) (mid : Machine) (stays : turn_left w ≡ None) (e : from_here m body_of ≡ Goes (way_of w) (state_of mid) (told_of mid) (left_of mid)) where
       body_done : from_here old (after_loop k calls l) ≡ from_here mid behind
       body_done = turn_now ∙ turn_goes w m mid body_of behind stays e
 
@@ -134,11 +134,11 @@ module _ (k : Setting) (calls : Calls) (l : TLoop) where
       step_halts h new p =
           subst (λ (x : Effect). Halts h new x) (sym body_done) (then_halts h mid new step_of (tested test_of (loop_turns k calls l (n - (i + 1)))) p)
 
-      pub step_leaves : (v u : Way) (new : Machine) → other_way v ≡ Some u → from_here mid step_of ≡ Goes (way_of v) (state_of new) new.events.items (left_of new) →
-          from_here old (after_loop k calls l) ≡ Goes (way_of u) (state_of new) new.events.items (left_of new)
+      pub step_leaves : (v u : Way) (new : Machine) → other_way v ≡ Some u → from_here mid step_of ≡ Goes (way_of v) (state_of new) (told_of new) (left_of new) →
+          from_here old (after_loop k calls l) ≡ Goes (way_of u) (state_of new) (told_of new) (left_of new)
       step_leaves v u new other f = body_done ∙ then_leaves v u mid new step_of (tested test_of (loop_turns k calls l (n - (i + 1)))) other f
 
-      module _ (v : Way) (new : Machine) (next : other_way v ≡ None) (f : from_here mid step_of ≡ Goes (way_of v) (state_of new) new.events.items (left_of new)) where
+      module _ (v : Way) (new : Machine) (next : other_way v ≡ None) (f : from_here mid step_of ≡ Goes (way_of v) (state_of new) (told_of new) (left_of new)) where
         step_done : from_here old (after_loop k calls l) ≡ from_here new (tested test_of (loop_turns k calls l (n - (i + 1))))
         step_done = body_done ∙ then_passes mid new step_of (tested test_of (loop_turns k calls l (n - (i + 1)))) (passes_next v mid new step_of next f)
 
@@ -150,7 +150,7 @@ module _ (k : Setting) (calls : Calls) (l : TLoop) where
 
         pub turn_stops : (b : Bool) → b ≡ true →
             ((go : Bool → Onward) → from_here new (λ s c. with_value (test_of s) c (λ n. go (is_zero n) s c)) ≡ from_here new (go b)) →
-            from_here old (after_loop k calls l) ≡ Goes Next (state_of new) new.events.items (left_of new)
+            from_here old (after_loop k calls l) ≡ Goes Next (state_of new) (told_of new) (left_of new)
         turn_stops b stops found =
             step_done ∙ found (λ b. unless b (n - (i + 1))) ∙ ap (λ (x : Bool). from_here new (unless x (n - (i + 1)))) stops ∙ nothing_done new
 

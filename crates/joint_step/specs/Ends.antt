@@ -7,9 +7,9 @@ use Rattle.joint_step.specs.declared.run.ReplayEnd.{ReplayEnd}
 use Rattle.joint_step.specs.declared.run.ReplayEnd.TheVariants as end
 use Rattle.joint_step.specs.declared.run.Replayed.{Replayed}
 
--- a run ends so, with these events, and leaves some choices
+-- a run ends so, with these events, having drawn numbers of some widths, and leaves some choices
 abbrev pub IsRun : Replayed → Effect → Type 0
-IsRun r effect = (rest : List ℕ) × (effect ≡ Stops r.outcome r.events rest)
+IsRun r effect = (widths rest : List ℕ) × (effect ≡ Stops r.outcome (record { events = r.events; widths = widths }) rest)
 
 -- a run draws more choices than there are; want of memory says nothing of it
 abbrev pub IsCutOff : ReplayEnd → Effect → Type 0

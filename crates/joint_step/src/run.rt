@@ -3,7 +3,7 @@
 ghost use Rattle.std.specs.Prelude.{◌≡◌, ◌++◌, ◌∷◌, [], IfOk, IfErr, MatchResult, slice_get};
 ghost use Rattle.joint_ir.specs.Runs.{run_of, ended, main_effect, body_of};
 ghost use Rattle.joint_ir.specs.WellFormed.{IsWellFormed};
-ghost use Rattle.joint_view.specs.Halts.{HaltsAs, last_events};
+ghost use Rattle.joint_view.specs.Halts.{HaltsAs, last_events, unmeasured};
 ghost use Rattle.joint_machine.specs.Moments.{Does, Halts, IsReady, from_here};
 ghost use Rattle.joint_step.specs.Ends.{IsRun, IsCutOff, IsShort};
 
@@ -53,7 +53,7 @@ pub fn replay(
 /// A machine at the first state of a run, whose first frame is seen.
 fn begin(alloc: Global, pair: &Pair, choices: &Choices) -> Result<Machine, Halt>
     requires { IsWellFormed pair.now }
-    ensures begun { IfOk result (λ m. (bounds : Bounds) → run_of pair.now bounds choices.now ≡ ended (from_here m (main_effect pair.now bounds (body_of (slice_get pair.now.program.functions pair.now.program.main))))) }
+    ensures begun { IfOk result (λ m. (bounds : Bounds) → unmeasured (run_of pair.now bounds choices.now) ≡ ended (from_here m (main_effect pair.now bounds (body_of (slice_get pair.now.program.functions pair.now.program.main))))) }
     ensures halts { IfErr result (λ h. (bounds : Bounds) → HaltsAs h choices.now (run_of pair.now bounds choices.now)) }
     ensures ready { IfOk result (λ m. IsReady pair.now m) }
     ensures standing { IfOk result (λ m. m.standing.items ≡ pair.now.program.main ∷ []) }

@@ -15,7 +15,7 @@ use crate::parts::{
     result_type, simple,
 };
 use joint_ir::{Group, IntType, Outcome, SNode, Slot, TCall, TInit, TLoop, TStmt, TTarget, lookup};
-use joint_lists::entry;
+use joint_lists::{entry, own_end};
 use joint_machine::{Machine, Way};
 use joint_value::arith;
 use joint_view::Halt;
@@ -310,14 +310,9 @@ fn enter(
                 if !may_begin(at, machine, function, callee) {
                     return refused(at, callee);
                 }
-                let saved = machine.begin(
-                    alloc,
-                    at.pair,
-                    place.line,
-                    function,
-                    callee.first,
-                    args,
-                )?;
+                let first = callee.first;
+                let end = own_end(callee, body);
+                let saved = machine.begin(alloc, place.line, function, first, end, args)?;
                 let inner = Activation {
                     pair: at.pair,
                     bounds: at.bounds,
@@ -326,7 +321,7 @@ fn enter(
                 };
                 let way = statement(alloc, &inner, machine, body)?;
                 let is_main = function == at.pair.program.main;
-                machine.leave(saved, is_main, callee.result, way)
+                machine.leave(first, saved, is_main, callee.result, way)
             }
         },
     }

@@ -1,5 +1,5 @@
 -- The rows of objects: their first elements, one more at a time, an element set, and a part of them.
-use Rattle.std.proofs.Common.{◌≡◌, ℕ, zero, suc, ◌+◌, ◌-◌, ◌<◌, ◌≤◌, List, [], ◌∷◌, ◌++◌, length, take, drop, get_or, set, min, ◌⊎◌, inl, inr, refl, sym, ap, ◌∙◌, arith, le_refl, ℤ, pos}
+use Rattle.std.proofs.Common.{◌≡◌, ℕ, zero, suc, ◌+◌, ◌-◌, ◌<◌, ◌≤◌, List, [], ◌∷◌, ◌++◌, length, take, drop, get_or, set, min, ◌⊎◌, inl, inr, refl, sym, ap, ◌∙◌, arith, ℤ, pos}
 use Rattle.std.proofs.lemmas.List.{map_more, map-set, get_or-map, map-append, take-map, drop-map, drop-drop, take_all, drop_all, take_more, drop-append-le, length-take, length-take-le, length-drop, length-append}
 use Rattle.std.specs.Prelude.{map}
 use Rattle.std.specs.Global.{Vec}

@@ -1,5 +1,5 @@
 -- Stores whose objects hold numbers of their types: the first one, and those that a run makes of them.
-use Rattle.std.proofs.Common.{ℕ, zero, suc, ◌+◌, ◌^◌, ◌<◌, true, false, List, [], ◌∷◌, arith}
+use Rattle.std.proofs.Common.{ℕ, zero, suc, ◌+◌, ◌^◌, ◌<◌, true, false, List, [], ◌∷◌, arith, length, ap, ◌∙◌, refl, ◌≡◌, length-set}
 use Rattle.std.specs.Prelude.{ℤ, pos, Option, Some, None, IfSome, All, map, slice_get, slice_index_or, slice_set}
 use Rattle.std.proofs.lemmas.Int.{ints}
 use Rattle.std.proofs.lemmas.List.Elements.{All-cons, All-nil, All-set}
@@ -108,10 +108,14 @@ members_kept p v i h = from_kept p.binding.links p.module.signals (view_words p.
 
 -- ---- what a run makes of a store
 
+rows_count : (vars : List Var) → length (first_rows vars) ≡ length vars
+rows_count [] = refl
+rows_count (x ∷ vars) = ap suc (rows_count vars)
+
 -- the store at the start of a run
 pub first_kept : (p : Pair) (v : View) → FitsProgram p.program →
     KeepsTypes p.program (record { globals = first_rows p.program.globals; locals = first_rows p.program.locals; members = filled p v })
-first_kept p v h = record { globals = λ i. globals_kept p.program i h; locals = λ i. locals_kept p.program i h; members = λ i. members_kept p v i h }
+first_kept p v h = record { count = rows_count p.program.locals; globals = λ i. globals_kept p.program i h; locals = λ i. locals_kept p.program i h; members = λ i. members_kept p v i h }
 
 set_kept : (T : ℕ → ℤ → Type 0) (rows : List (List ℤ)) (i : ℕ) (row : List ℤ) → ((k : ℕ) → All (T k) (row_at rows k)) → All (T i) row → (k : ℕ) →
     All (T k) (row_at (slice_set rows i row) k)
@@ -127,22 +131,17 @@ put_at_kept T rows i j n h is = set_kept T rows i (slice_set (row_at rows i) j n
 
 -- a number of an object's type put into it
 pub put_kept : (p : CProgram) (s : Store) (slot : Slot) (element : ℕ) (n : ℤ) → KeepsTypes p s → InRange (slot_type p slot) n → KeepsTypes p (put s slot element n)
-put_kept p s (Global i) j n h is = record { globals = put_at_kept (λ k. InRange (slot_type p (Global k))) s.globals i j n h.globals is; locals = h.locals; members = h.members }
-put_kept p s (Local i) j n h is = record { globals = h.globals; locals = put_at_kept (λ k. InRange (slot_type p (Local k))) s.locals i j n h.locals is; members = h.members }
-put_kept p s (Member i) j n h is = record { globals = h.globals; locals = h.locals; members = put_at_kept (λ k. InRange (slot_type p (Member k))) s.members i j n h.members is }
+put_kept p s (Global i) j n h is = record { count = h.count; globals = put_at_kept (λ k. InRange (slot_type p (Global k))) s.globals i j n h.globals is; locals = h.locals; members = h.members }
+put_kept p s (Local i) j n h is = record { count = length-set s.locals i _ ∙ h.count; globals = h.globals; locals = put_at_kept (λ k. InRange (slot_type p (Local k))) s.locals i j n h.locals is; members = h.members }
+put_kept p s (Member i) j n h is = record { count = h.count; globals = h.globals; locals = h.locals; members = put_at_kept (λ k. InRange (slot_type p (Member k))) s.members i j n h.members is }
 put_kept p s BoundValue j n h is = h
-
--- the locals of an activation that begins
-pub begun_kept : (p : CProgram) (s : Store) → FitsProgram p → KeepsTypes p s →
-    KeepsTypes p (record { globals = s.globals; locals = first_rows p.locals; members = s.members })
-begun_kept p s fits h = record { globals = h.globals; locals = λ i. locals_kept p i fits; members = h.members }
 
 -- the locals of the caller, back
 pub back_kept : (p : CProgram) (s caller : Store) → KeepsTypes p s → KeepsTypes p caller →
     KeepsTypes p (record { globals = s.globals; locals = caller.locals; members = s.members })
-back_kept p s caller h i = record { globals = h.globals; locals = i.locals; members = h.members }
+back_kept p s caller h i = record { count = i.count; globals = h.globals; locals = i.locals; members = h.members }
 
 -- the mirror, filled from a view
 pub viewed_kept : (p : Pair) (v : View) (s : Store) → FitsProgram p.program → KeepsTypes p.program s →
     KeepsTypes p.program (record { globals = s.globals; locals = s.locals; members = filled p v })
-viewed_kept p v s fits h = record { globals = h.globals; locals = h.locals; members = λ i. members_kept p v i fits }
+viewed_kept p v s fits h = record { count = h.count; globals = h.globals; locals = h.locals; members = λ i. members_kept p v i fits }

@@ -1,5 +1,5 @@
 -- Which expressions have a value: those that are well-formed, over objects that hold numbers of their types.
-use Rattle.std.specs.Prelude.{ℕ, All}
+use Rattle.std.specs.Prelude.{◌≡◌, ℕ, length, All}
 use Rattle.joint_ir.specs.declared.expr.Slot.{Slot}
 use Rattle.joint_ir.specs.declared.expr.Slot.TheVariants.{Global, Local, Member}
 use Rattle.joint_ir.specs.declared.expr.TExpr.{TExpr}
@@ -15,8 +15,9 @@ pub record HoldsTypes (p : CProgram) (rows : Rows) : Type 0 where
   pub types : (slot : Slot) → IsType (slot_type p slot)
   pub values : (slot : Slot) → All (InRange (slot_type p slot)) (rows slot)
 
--- each row of a store holds numbers of its object's type
+-- each row of a store holds numbers of its object's type, and there is one for each local
 pub record KeepsTypes (p : CProgram) (s : Store) : Type 0 where
+  pub count : length s.locals ≡ length p.locals
   pub globals : (i : ℕ) → All (InRange (slot_type p (Global i))) (row_at s.globals i)
   pub locals : (i : ℕ) → All (InRange (slot_type p (Local i))) (row_at s.locals i)
   pub members : (i : ℕ) → All (InRange (slot_type p (Member i))) (row_at s.members i)

@@ -1,4 +1,4 @@
-use Rattle.std.proofs.Common.{◌≡◌, ◌∙◌, ◌-◌, ◌<◌, ℕ, true, List, [], ◌∷◌, ◌++◌, drop, refl, sym, ap, subst, eqb, rules, arith}
+use Rattle.std.proofs.Common.{◌≡◌, ◌∙◌, ◌+◌, ◌-◌, ◌<◌, ◌≤◌, length, ℕ, true, List, [], ◌∷◌, ◌++◌, drop, refl, sym, ap, subst, eqb, rules, arith}
 use Rattle.std.specs.Prelude.{ℤ, Option, Some, None, All, map}
 use Rattle.std.proofs.lemmas.Grind.{common_steps}
 use Rattle.std.proofs.lemmas.Int.{to_z-of_z}
@@ -9,14 +9,16 @@ use Rattle.joint_ir.specs.declared.stmt.SNode.{SNode, Return, the_lemmas}
 use Rattle.joint_ir.specs.declared.stmt.TLoop.{out-TLoop}
 use Rattle.joint_ir.specs.declared.stmt.TStmt.{TStmt}
 use Rattle.joint_ir.specs.declared.stmt.Group.{Group, out-Group}
-use Rattle.joint_ir.specs.Effects.{Effect, Onward, Goes}
+use Rattle.joint_ir.specs.Effects.{Effect, Onward, nothing, Goes}
 use Rattle.joint_ir.specs.Steps.{rows_in, limit_of}
 use Rattle.joint_ir.specs.Statements.{after, calls_at}
 use Rattle.joint_machine.specs.Moments.{Passes, Finds, Halts, Stands, from_here, way_of}
 use Rattle.joint_machine.proofs.Flow.{nothing_done}
 use Rattle.joint_lists.specs.Lists.{after_items, after_option, after_cases, entered_case}
 use Rattle.joint_step.specs.Walks.{setting_of, calls_in}
-use Rattle.joint_step.proofs.Flows.{does_as, if_zero, if_other, if_halts, switch_none, switch_some, returned_gone, kept_then, items_step, items_leave, items_halt, items_done, cases_step, cases_leave, cases_halt, cases_done}
+use Rattle.joint_value.specs.Elements.{part_of, replaced}
+use Rattle.joint_step.proofs.Restored.{own_from, call_room, call_restored, ok_ready}
+use Rattle.joint_step.proofs.Flows.{goes_both, does_as, if_zero, if_other, if_halts, switch_none, switch_some, returned_gone, kept_then, items_step, items_leave, items_halt, items_done, cases_step, cases_leave, cases_halt, cases_done}
 use Rattle.joint_step.proofs.Loops.{heads_leave, heads_halt, loop_begins, loop_stops, loop_unbegun, body_halts, body_leaves, step_halts, step_leaves, turn_done, turn_stops, test_halts, turns_over}
 use Rattle.joint_step.proofs.Standing.{stands_as, stands-block, stands-test, stands-then, stands-else, stands-cases, stands_rest, stands_heads, stands_cond, stands_step, stands_body}
 use Rattle.joint_step.proofs.Calls.{stands_left, calls_none, calls_bodiless, calls_entered, going_halts, going_done}
@@ -546,7 +548,7 @@ enter-statement-requires t c =
     let lt = stands_left a.left _ (sym c.may_begin.ensures ∙ c.if-not-may_begin.false) in
     let falls = enter_falls p.program.functions a.left f fn body lt some c.in-Some-body.is in
     let now = c.decreases in
-    (omega arith, (c.requires.well, (c.in_ok-saved-in-Some-body.ensures.ready, stands_callee p f fn c.requires.well some body c.in-Some-body.is)))
+    (omega arith, (c.requires.well, (c.in_ok-saved-in-Some-body.ensures.ready p (c.requires.args fn some).typed c.requires.ready, stands_callee p f fn c.requires.well some body c.in-Some-body.is)))
 
 pub enter-returns-in_err-way-in-Some-body-clause-does : goal.enter-returns-in_err-way-in-Some-body-clause-does
 enter-returns-in_err-way-in-Some-body-clause-does t c =
@@ -562,6 +564,59 @@ enter-returns-in_err-way-in-Some-body-clause-does t c =
     let p' = err_from_is_err_and c.from_residual-in_err-way-in-Some-body.result c.from_residual-in_err-way-in-Some-body.ensures.1 in
     rw (p'.1, p'.2) (λ st is. subst (λ (x : Effect). Halts c.in_err-way-in-Some-body.field-0.0 c.statement.new.machine x) (sym (ap (from_here old) (calls_entered p b f c.args.place c.args.args.now fn a.left st some body c.in-Some-body.is (ap (λ (l : List ℕ). may_stand a.left (is_below_limit p b l f fn)) (sym is) ∙ sym c.may_begin.ensures ∙ c.if-not-may_begin.false)))) (going_halts p b (calls_at p b (a.left - 1) (st ++ f ∷ [])) f fn body c.args.place c.args.args.now old c.begin.new.self c.in_ok-saved-in-Some-body.ensures.does c.in_err-way-in-Some-body.field-0.0 c.statement.new.machine (c.in_err-way-in-Some-body.ensures.does (st ++ f ∷ []) (c.in_ok-saved-in-Some-body.ensures.standing ∙ ap (λ (l : List ℕ). l ++ f ∷ []) is))))
 
+pub enter-begin-requires-clause-from : goal.enter-begin-requires-clause-from
+enter-begin-requires-clause-from t c =
+    subst (λ (n : ℕ). c.in-Some.callee.now.first ≤ n) (sym c.own_end-end.ensures)
+    (own_from c.args.at.now.pair.now c.args.at.now.bounds.now c.requires.well c.args.function c.in-Some.callee.now (sym c.in-Some.ensures.value) c.in-Some-body.body c.in-Some-body.is)
+
+pub enter-leave-requires-clause-room : goal.enter-leave-requires-clause-room
+enter-leave-requires-clause-room t c =
+    let a = c.args.at.now in
+    let p = a.pair.now in
+    let f = c.args.function in
+    let fn = c.in-Some.callee.now in
+    let some = sym c.in-Some.ensures.value in
+    let old = c.args.machine.now in
+    let body = c.in-Some-body.body in
+    let b = a.bounds.now in
+    let new = c.statement.new.machine in
+    let mid = c.begin.new.self in
+    let w = c.in_ok-way-in-Some-body.way in
+    let first = c.in_ok-saved-in-Some-body.ensures in
+    let ended_at = c.own_end-end.ensures in
+    let st = old.standing.items in
+    let done = c.in_ok-way-in-Some-body.ensures.does (st ++ f ∷ []) first.standing in
+    subst (λ (rows : List (List ℤ)). fn.first + length rows ≤ length new.store.locals) (sym (first.saved ∙ ap (λ (n : ℕ). part_of fn.first n old.store.locals) ended_at))
+    (call_room p b c.requires.well f fn some body c.in-Some-body.is c.args.place.line c.args.args.now (c.requires.args fn some) old mid new c.requires.ready first.does (a.left - 1) (st ++ f ∷ []) w done)
+
+pub enter-returns-in_ok-way-in-Some-body-clause-goes : goal.enter-returns-in_ok-way-in-Some-body-clause-goes
+enter-returns-in_ok-way-in-Some-body-clause-goes t c =
+    let a = c.args.at.now in
+    let p = a.pair.now in
+    let f = c.args.function in
+    let fn = c.in-Some.callee.now in
+    let some = sym c.in-Some.ensures.value in
+    let old = c.args.machine.now in
+    let body = c.in-Some-body.body in
+    let b = a.bounds.now in
+    let new = c.statement.new.machine in
+    let mid = c.begin.new.self in
+    let w = c.in_ok-way-in-Some-body.way in
+    let first = c.in_ok-saved-in-Some-body.ensures in
+    let ended_at = c.own_end-end.ensures in
+    let st = old.standing.items in
+    let done = c.in_ok-way-in-Some-body.ensures.does (st ++ f ∷ []) first.standing in
+    let same : replaced fn.first c.in_ok-saved-in-Some-body.saved new.store.locals ≡ old.store.locals =
+    ap (λ (rows : List (List ℤ)). replaced fn.first rows new.store.locals) (first.saved ∙ ap (λ (n : ℕ). part_of fn.first n old.store.locals) ended_at)
+    ∙ call_restored p b c.requires.well f fn some body c.in-Some-body.is c.args.place.line c.args.args.now (c.requires.args fn some) old mid new c.requires.ready first.does (a.left - 1) (st ++ f ∷ []) w done in
+    let body_kept = c.in_ok-way-in-Some-body.ensures.goes in
+    goes_both c.leave.result p old c.leave.new.self
+    (record {
+      choices = c.leave.ensures.choices ∙ body_kept.0.choices ∙ first.choices;
+      standing = c.leave.ensures.standing st f (body_kept.0.standing ∙ first.standing);
+    })
+    (ok_ready c.leave.result p fn.first c.in_ok-saved-in-Some-body.saved new c.leave.new.self old c.leave.ensures.ready body_kept.1 c.requires.ready same)
+
 pub enter-returns-in_ok-way-in-Some-body-clause-does : goal.enter-returns-in_ok-way-in-Some-body-clause-does
 enter-returns-in_ok-way-in-Some-body-clause-does t c =
     let a = c.args.at.now in
@@ -576,11 +631,17 @@ enter-returns-in_ok-way-in-Some-body-clause-does t c =
     let new = c.statement.new.machine in
     let w = c.in_ok-way-in-Some-body.way in
     let saved = c.in_ok-saved-in-Some-body.saved in
+    let mid = c.begin.new.self in
+    let first = c.in_ok-saved-in-Some-body.ensures in
+    let st' = old.standing.items in
+    let same : replaced fn.first saved new.store.locals ≡ old.store.locals =
+    ap (λ (rows : List (List ℤ)). replaced fn.first rows new.store.locals) (first.saved ∙ ap (λ (n : ℕ). part_of fn.first n old.store.locals) c.own_end-end.ensures)
+    ∙ call_restored p b c.requires.well f fn some body c.in-Some-body.is c.args.place.line c.args.args.now (c.requires.args fn some) old mid new c.requires.ready first.does (a.left - 1) (st' ++ f ∷ []) w (c.in_ok-way-in-Some-body.ensures.does (st' ++ f ∷ []) first.standing) in
     λ st is. passes_after c.leave.result old new c.leave.new.self (calls_at p b a.left st c.args.place f c.args.args.now)
-    (λ s c'. after_body (eqb f p.program.main) fn.result saved (Goes (way_of w) s [] c'))
+    (λ s c'. after_body (eqb f p.program.main) fn.result (replaced fn.first saved new.store.locals) (Goes (way_of w) s nothing c'))
     (ap (from_here old) (calls_entered p b f c.args.place c.args.args.now fn a.left st some body c.in-Some-body.is (ap (λ (l : List ℕ). may_stand a.left (is_below_limit p b l f fn)) (sym is) ∙ sym c.may_begin.ensures ∙ c.if-not-may_begin.false))
     ∙ going_done p b (calls_at p b (a.left - 1) (st ++ f ∷ [])) f fn body c.args.place c.args.args.now old c.begin.new.self c.in_ok-saved-in-Some-body.ensures.does w new (c.in_ok-way-in-Some-body.ensures.does (st ++ f ∷ []) (c.in_ok-saved-in-Some-body.ensures.standing ∙ ap (λ (l : List ℕ). l ++ f ∷ []) is))
-    ∙ ap (λ (rows : _). from_here new (λ s c'. after_body (eqb f p.program.main) fn.result rows (Goes (way_of w) s [] c'))) (sym c.in_ok-saved-in-Some-body.ensures.saved))
+    ∙ ap (λ (rows : List (List ℤ)). from_here new (λ s c'. after_body (eqb f p.program.main) fn.result rows (Goes (way_of w) s nothing c'))) (sym same))
     c.leave.ensures.does
 
 pub statement-block-requires : goal.statement-block-requires
@@ -773,8 +834,8 @@ give_back-returns-in_err-machine-in-Some-clause-does t c =
     let ty = c.result_type-ty.result in
     let p = err_from_is_err_and c.from_residual.result c.from_residual.ensures.1 in
     rw (p.1, p.2, c.in-Some.is) (λ st is.
-    subst (λ (t : IntType). Halts c.in_err-machine-in-Some.field-0.0 c.initial.new.machine (from_here m (λ s c'. with_init k (calls_in a st) t init s c' (λ n s c'. Goes Returning (returning s n) [] c')))) c.result_type-ty.ensures
-    (c.in_err-machine-in-Some.ensures.finds st is (λ n s c'. Goes Returning (returning s n) [] c')))
+    subst (λ (t : IntType). Halts c.in_err-machine-in-Some.field-0.0 c.initial.new.machine (from_here m (λ s c'. with_init k (calls_in a st) t init s c' (λ n s c'. Goes Returning (returning s n) nothing c')))) c.result_type-ty.ensures
+    (c.in_err-machine-in-Some.ensures.finds st is (λ n s c'. Goes Returning (returning s n) nothing c')))
 
 pub give_back-returns-in_ok-machine-in-Some-clause-does : goal.give_back-returns-in_ok-machine-in-Some-clause-does
 give_back-returns-in_ok-machine-in-Some-clause-does t c =
@@ -785,8 +846,8 @@ give_back-returns-in_ok-machine-in-Some-clause-does t c =
     let ty = c.result_type-ty.result in
     let f : SFits w128 c.in_ok-machine-in-Some.field-0 = search rules in
     rw c.in-Some.is (λ st is.
-    ap (λ (t : IntType). from_here m (λ s c'. with_init k (calls_in a st) t init s c' (λ n s c'. Goes Returning (returning s n) [] c'))) (sym c.result_type-ty.ensures)
-    ∙ c.in_ok-machine-in-Some.ensures.finds st is (λ n s c'. Goes Returning (returning s n) [] c')
+    ap (λ (t : IntType). from_here m (λ s c'. with_init k (calls_in a st) t init s c' (λ n s c'. Goes Returning (returning s n) nothing c'))) (sym c.result_type-ty.ensures)
+    ∙ c.in_ok-machine-in-Some.ensures.finds st is (λ n s c'. Goes Returning (returning s n) nothing c')
     ∙ returned_gone c.initial.new.machine c.in_ok-machine-in-Some.field-0 _ (sym (to_z-of_z w128 _ f)))
 
 pub give_back-returns-in_ok-machine-in-Some-clause-goes : goal.give_back-returns-in_ok-machine-in-Some-clause-goes

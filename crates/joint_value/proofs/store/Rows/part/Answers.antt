@@ -1,4 +1,4 @@
-use Rattle.std.proofs.Common.{◌≤◌, ◌<◌, List, [], ◌∷◌, ◌++◌, ℤ, length, min, subst, ap, ◌∙◌, le_refl, arith}
+use Rattle.std.proofs.Common.{◌<◌, List, [], ◌∷◌, ◌++◌, ℤ, length, ap, ◌∙◌, le_refl, arith}
 use Rattle.joint_ir.specs.States.{row_at}
 use Rattle.joint_value.proofs.Elements.{no_part, part_more, part_whole}
 use Rattle.joint_value.proofs.store.Rows.part.Goals as goal

@@ -1,6 +1,6 @@
 -- A function's body leaves the locals that aren't its own as they are.
-use Rattle.std.proofs.Common.{◌≡◌, ℕ, zero, suc, ◌+◌, ◌<◌, ◌≤◌, ◌%◌, ◌^◌, List, [], ◌∷◌, ◌++◌, length, take, drop, refl, sym, ap, subst, ◌∙◌, arith}
-use Rattle.std.specs.Prelude.{ℤ, pos, Option, Some, None, Bool, true, false, if◌then◌else◌, nat_lt, slice_get, slice_index_or, All, Contains}
+use Rattle.std.proofs.Common.{◌≡◌, ℕ, zero, suc, ◌+◌, ◌<◌, ◌≤◌, ◌%◌, ◌^◌, List, [], ◌∷◌, ◌++◌, length, max, le_refl, sym, ap, subst, ◌∙◌, arith}
+use Rattle.std.specs.Prelude.{ℤ, pos, Option, Some, None, Bool, true, false, if◌then◌else◌, nat_lt, eqb, slice_get, slice_index_or, All}
 use Rattle.std.proofs.lemmas.List.{take-set-le, drop-set-lt, length-set}
 use Rattle.std.proofs.lemmas.Bool.{false≢true}
 use Rattle.std.proofs.lemmas.List.Elements.{All-cons, All-nil, All-contains}
@@ -23,18 +23,22 @@ use Rattle.joint_ir.specs.declared.stmt.TTarget.{TTarget}
 use Rattle.joint_ir.specs.declared.stmt.TUpdate.{TUpdate}
 use Rattle.joint_ir.specs.Types.{converted}
 use Rattle.joint_ir.specs.Values.{Answer, Value, Fault, Rows, binary_value, value_of, is_zero}
-use Rattle.joint_ir.specs.Views.{widths_of, site_widths, driven, changed, next_registers}
-use Rattle.joint_ir.specs.States.{JointState, put, put_at}
-use Rattle.joint_ir.specs.Effects.{Effect, Onward, Told, nothing, seen, drew, Goes, Stops, TooFew, Next, Breaking, Continuing, Returning, preceded, then_do, after_turn, after_groups, check_then, broken, with_value, with_values, draw, draw_all}
-use Rattle.joint_ir.specs.Steps.{Setting, Calls, slot_type, element_of, rows_in, returning, with_store, call_effect, with_init, with_index, within_bounds, right_value, store_at, store_effect, update_effect, free_elements, set_elements, declare_object, declare_var, return_effect, set_inputs, clock_edge, next_frame, settled_view, at_view}
-use Rattle.joint_ir.specs.Statements.{tested, turns, loop_effect, at_entry, entered, after, after_row, after_other, after_loop, groups_from, after_group, set_params, condition_value}
-use Rattle.joint_ir.specs.WellFormed.{Scope, FitsStmt, FitsRow, FitsOther, FitsStep, FitsLoop, FitsGroups, FitsGroup, FitsTarget, IsVisible, with_scope_locals, in_a_loop, in_a_switch, declared_behind, behind_row, declared_in, declared_in_row, declared_in_other, declared_in_loop, declared_in_groups, declared_in_group, places_from}
-use Rattle.joint_lists.specs.Own.{behind_all, IsOwn, KeepsOthers, GoesWith, Keeps}
+use Rattle.joint_ir.specs.Views.{widths_of, site_widths}
+use Rattle.joint_ir.specs.States.{JointState, put}
+use Rattle.joint_ir.specs.Effects.{Effect, Onward, Told, nothing, drew, Goes, Stops, TooFew, Next, Breaking, Continuing, Returning, preceded, then_do, after_turn, after_groups, check_then, broken, with_value, with_values, draw, draw_all}
+use Rattle.joint_ir.specs.Steps.{Setting, Calls, slot_type, element_of, rows_in, returning, with_store, with_locals, call_effect, with_init, with_index, within_bounds, right_value, store_at, store_effect, update_effect, free_elements, set_elements, declare_object, declare_var, return_effect, set_inputs, clock_edge, next_frame, at_view}
+use Rattle.joint_ir.specs.declared.bounds.Bounds.{Bounds}
+use Rattle.joint_ir.specs.declared.pair.Pair.{Pair}
+use Rattle.joint_ir.specs.declared.program.Function.{Function}
+use Rattle.joint_ir.specs.declared.stmt.TStmt.{TStmt}
+use Rattle.joint_ir.specs.Statements.{closing, any_result, after_body, entered_body, entered_function, calls_at, no_calls, is_below_limit, tested, turns, loop_effect, at_entry, entered, after, after_row, after_other, after_loop, groups_from, after_group, set_params, condition_value}
+use Rattle.joint_ir.specs.WellFormed.{Scope, FitsStmt, FitsRow, FitsOther, FitsStep, FitsLoop, FitsGroups, FitsGroup, IsVisible, with_scope_locals, in_a_loop, in_a_switch, declared_behind, behind_row, declared_in, declared_in_row, declared_in_other, declared_in_loop, declared_in_groups, declared_in_group, places_from, FitsBody, AreTogether, scope_of}
+use Rattle.joint_lists.specs.Own.{behind_all, own_end, IsOwn, KeepsOthers, GoesWith, Keeps}
 
 -- ---- a property of states, along a stretch
 
 module _ (P : JointState → Type 0) where
-  preceded_keeps : (a : Told) (e : Effect) → GoesWith P e → GoesWith P (preceded a e)
+  pub preceded_keeps : (a : Told) (e : Effect) → GoesWith P e → GoesWith P (preceded a e)
   preceded_keeps a (Goes way s told c) h = h
   preceded_keeps a (Stops o told c) h = tt
   preceded_keeps a TooFew h = tt
@@ -357,3 +361,91 @@ module _ (first end : ℕ) (rows : List (List ℤ)) where
 
         group_keeps : (c : Scope) (t : IntType) (g : Group) → All (IsOwn first end) c.locals → FitsGroup (in_a_switch c) t g → AreOwn first end (declared_in_group g) → Keeps Others (after_group k calls g)
         group_keeps c t (Group' labels _ row) scope fits own = row_keeps (in_a_switch c) row scope fits.2 own
+
+-- ---- calls
+
+module _ (first end : ℕ) (rows : List (List ℤ)) where
+  resulting_keeps : (s : JointState) (n : ℤ) → Others first end rows s → Others first end rows (returning s n)
+  resulting_keeps s n h = record { count = h.count; before = h.before; behind = h.behind }
+
+  closing_keeps : (is_main : Bool) (result : Option IntType) → Keeps (Others first end rows) (closing is_main result)
+  closing_keeps true result s c h = resulting_keeps s (pos 0) h
+  closing_keeps false None s c h = resulting_keeps s (pos 0) h
+  closing_keeps false (Some t) s c h = draw_keeps (Others first end rows) t.bits c _ (λ n rest. resulting_keeps s (converted t (pos n)) h)
+
+  any_keeps : (result : Option IntType) → Keeps (Others first end rows) (any_result result)
+  any_keeps None s c h = h
+  any_keeps (Some t) s c h = draw_keeps (Others first end rows) t.bits c _ (λ n rest. resulting_keeps s (converted t (pos n)) h)
+
+  back_keeps : (s s' : JointState) → Others first end rows s → Others first end rows (with_locals s' s.store.locals)
+  back_keeps s s' h = record { count = h.count; before = h.before; behind = h.behind }
+
+  -- behind a body the caller's locals are back, whatever it did
+  body_keeps : (is_main : Bool) (result : Option IntType) (s : JointState) (e : Effect) → Others first end rows s → GoesWith (Others first end rows) (after_body is_main result s.store.locals e)
+  body_keeps is_main result s (Goes Returning s' told c) h = back_keeps s s' h
+  body_keeps is_main result s (Goes Next s' told c) h =
+      preceded_keeps (Others first end rows) told (closing is_main result (with_locals s' s.store.locals) c) (closing_keeps is_main result (with_locals s' s.store.locals) c (back_keeps s s' h))
+  body_keeps is_main result s (Goes Breaking s' told c) h =
+      preceded_keeps (Others first end rows) told (closing is_main result (with_locals s' s.store.locals) c) (closing_keeps is_main result (with_locals s' s.store.locals) c (back_keeps s s' h))
+  body_keeps is_main result s (Goes Continuing s' told c) h =
+      preceded_keeps (Others first end rows) told (closing is_main result (with_locals s' s.store.locals) c) (closing_keeps is_main result (with_locals s' s.store.locals) c (back_keeps s s' h))
+  body_keeps is_main result s (Stops o told c) h = tt
+  body_keeps is_main result s TooFew h = tt
+
+  module _ (p : Pair) (b : Bounds) where
+    entered_keeps : (may : Bool) (inner : Calls) (f : ℕ) (fn : Function) (body : Option TStmt) (place : Place) (args : List ℤ) →
+        Keeps (Others first end rows) (entered_body p b may inner f fn body place args)
+    entered_keeps may inner f fn None place args s c h = any_keeps fn.result s c h
+    entered_keeps true inner f fn (Some body) place args s c h = body_keeps (eqb f p.program.main) fn.result s _ h
+    entered_keeps false inner f fn (Some body) place args s c h = tt
+
+    function_keeps : (may : Function → Bool) (inner : Calls) (f : ℕ) (fn : Option Function) (place : Place) (args : List ℤ) →
+        Keeps (Others first end rows) (entered_function p b may inner f fn place args)
+    function_keeps may inner f None place args s c h = h
+    function_keeps may inner f (Some fn) place args s c h = entered_keeps (may fn) inner f fn fn.body place args s c h
+
+    -- a call keeps all locals, those of others among them
+    pub calls_keep : (left : ℕ) (standing : List ℕ) (place : Place) (f : ℕ) (args : List ℤ) → Keeps (Others first end rows) (calls_at p b left standing place f args)
+    calls_keep zero standing place f args = function_keeps (λ fn. false) no_calls f (slice_get p.program.functions f) place args
+    calls_keep (suc left) standing place f args =
+        function_keeps (is_below_limit p b standing f) (calls_at p b left (standing ++ f ∷ [])) f (slice_get p.program.functions f) place args
+
+-- ---- what stands together
+
+together_own : (first end from n : ℕ) → first ≤ from → from + n ≤ end → AreOwn first end (places_from from n)
+together_own first end from zero le to = tt
+together_own first end from (suc n) le to = ((le, omega arith), together_own first end (suc from) n (omega arith) (omega arith))
+
+places_all : (first end from n : ℕ) → first ≤ from → from + n ≤ end → All (IsOwn first end) (places_from from n)
+places_all first end from zero le to = All-nil (IsOwn first end)
+places_all first end from (suc n) le to = All-cons (IsOwn first end) from (places_from (suc from) n) (le, omega arith) (places_all first end (suc from) n (omega arith) (omega arith))
+
+behind_places : (n from m : ℕ) → from ≤ n → from + m ≤ behind_all n (places_from from m)
+behind_places n from zero le = omega arith
+behind_places n from (suc m) le =
+    let more : suc from + m ≤ behind_all (max n (suc from)) (places_from (suc from) m) = behind_places (max n (suc from)) (suc from) m (omega arith) in
+    omega (arith, more)
+
+pub params_before : (fn : Function) (body : TStmt) → AreTogether fn body → fn.first + fn.params ≤ own_end fn body
+params_before fn body h =
+    let n = length (declared_in body.node) in
+    let from = fn.first + fn.params in
+    let le : from + n ≤ behind_all from (places_from from n) = behind_places from from n (le_refl from) in
+    let same : behind_all from (declared_in body.node) ≡ behind_all from (places_from from n) = ap (behind_all from) h in
+    omega (arith, le, same)
+
+pub declared_together : (fn : Function) (body : TStmt) → AreTogether fn body → AreOwn fn.first (own_end fn body) (declared_in body.node)
+declared_together fn body h =
+    let n = length (declared_in body.node) in
+    let from = fn.first + fn.params in
+    let le : from + n ≤ behind_all from (places_from from n) = behind_places from from n (le_refl from) in
+    let same : behind_all from (declared_in body.node) ≡ behind_all from (places_from from n) = ap (behind_all from) h in
+    subst (AreOwn fn.first (own_end fn body)) (sym h) (together_own fn.first (own_end fn body) from n (omega arith) (omega (arith, le, same)))
+
+-- a well-formed body leaves the locals that aren't its function's own as they are
+pub own_keeps : (p : Pair) (b : Bounds) (left : ℕ) (standing : List ℕ) (rows : List (List ℤ)) (f : ℕ) (fn : Function) (body : TStmt) → FitsBody p.program f fn (Some body) →
+    Keeps (Others fn.first (own_end fn body) rows) (after (record { pair = p; bounds = b; here = f }) (calls_at p b left standing) body.place body.node)
+own_keeps p b left standing rows f fn body fits =
+    let end = own_end fn body in
+    after_keeps fn.first end rows (record { pair = p; bounds = b; here = f }) (calls_at p b left standing) (calls_keep fn.first end rows p b left standing)
+    (scope_of p.program f fn) body.place body.node (places_all fn.first end fn.first fn.params (le_refl fn.first) (params_before fn body fits.3)) fits.2 (declared_together fn body fits.3)
