@@ -4,7 +4,6 @@ use Rattle.std.specs.Prelude.{ℤ, Option, Some, None, Bool, true, false, slice_
 use Rattle.src_text.specs.declared.refusal.Place.{Place}
 use Rattle.joint_ir.specs.declared.bounds.Bounds.{Bounds}
 use Rattle.joint_ir.specs.declared.ctype.IntType.{IntType}
-use Rattle.joint_ir.specs.declared.event.Event.{Event}
 use Rattle.joint_ir.specs.declared.event.Event.TheVariants.{Frame}
 use Rattle.joint_ir.specs.declared.expr.Slot.TheVariants.{Local}
 use Rattle.joint_ir.specs.declared.module.Role.TheVariants.{Input}
@@ -13,7 +12,7 @@ use Rattle.joint_ir.specs.declared.program.Function.{Function}
 use Rattle.joint_ir.specs.declared.stmt.TStmt.{TStmt}
 use Rattle.joint_ir.specs.Views.{widths_of, site_widths, shown}
 use Rattle.joint_ir.specs.States.{JointState}
-use Rattle.joint_ir.specs.Effects.{Effect, Told, nothing, seen, drew, Onward, Goes, Stops, TooFew, Next, Breaking, Continuing, Returning, then_do}
+use Rattle.joint_ir.specs.Effects.{Effect, Told, seen, Onward, Goes, Stops, TooFew, Next, Breaking, Continuing, Returning, then_do}
 use Rattle.joint_ir.specs.Steps.{Calls, store_at, with_locals}
 use Rattle.joint_ir.specs.Statements.{set_params, closing, after_body, any_result, body_effect, entered_body, entered_function, is_below_limit, no_calls, calls_at}
 use Rattle.joint_ir.specs.Runs.{draw_registers, with_first_state, body_of, main_effect, ended, run_of}

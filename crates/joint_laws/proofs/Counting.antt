@@ -31,13 +31,14 @@ program_fits n le = record {
             (
               (refl, record { type = Single true; wide = omega arith }, refl, refl, refl),
               (Single true, (record { visible = (_, refl, refl); shape = refl }, refl)),
-              (int_promoted, in_int n le),
+              (record { type = Single true; wide = omega arith }, in_int n le),
             ),
             (_, refl, refl),
           ),
           tt,
         ),
       ),
+      refl,
       refl,
       refl,
     );

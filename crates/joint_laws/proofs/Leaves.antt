@@ -1,12 +1,11 @@
 -- How many choices a stretch of a run draws at most, and what follows for stretches one after another.
 use Rattle.std.proofs.Common.{ℕ, ◌+◌, ◌≤◌, ◌%◌, ◌^◌, List, [], ◌∷◌, length, arith}
 use Rattle.std.specs.Prelude.{ℤ, Option, Some, None, Bool, true, false}
-use Rattle.joint_ir.specs.declared.event.Event.{Event}
 use Rattle.joint_ir.specs.declared.expr.TExpr.{TExpr}
 use Rattle.joint_ir.specs.declared.program.PropId.{PropId}
 use Rattle.joint_ir.specs.Values.{Answer, Value, Fault, Rows, value_of}
 use Rattle.joint_ir.specs.States.{JointState}
-use Rattle.joint_ir.specs.Effects.{Effect, Told, nothing, seen, drew, Onward, Goes, Stops, TooFew, Next, Breaking, Continuing, Returning, preceded, then_do, after_turn, after_groups, check_then, with_value, with_values, draw, draw_all}
+use Rattle.joint_ir.specs.Effects.{Effect, Told, drew, Onward, Goes, Stops, TooFew, Next, Breaking, Continuing, Returning, preceded, then_do, after_turn, after_groups, check_then, with_value, with_values, draw, draw_all}
 
 -- an effect goes on with at least k choices left, or ends the run
 abbrev pub Leaves : ℕ → Effect → Type 0

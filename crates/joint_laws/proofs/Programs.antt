@@ -57,7 +57,7 @@ pub summing_fits : IsWellFormed summing
 unfolding hidden-the_row-TStmt-0 hidden-the_row-TStmt-1 hidden-the_row-Group-2 hidden-the_row-TExpr-0 hidden
 summing_fits = record {
   program = program_fits summing.program (λ f fn is. among_one (FitsFunction summing.program) _ fn f is
-      (record { result = Single true; body = (omega arith, all_none _, ((_, refl, (_, refl, (refl, (int_promoted, in_int 0 (omega arith))))), ((((_, refl, (_, refl, (refl, (int_promoted, in_int 0 (omega arith))))), tt), refl, ((refl, int_promoted, refl, refl, refl), (record { visible = (omega arith, (0, omega arith, refl)); shape = refl }, refl), (int_promoted, in_int 3 (omega arith))), (refl, (record { object = record { visible = (omega arith, (0, omega arith, refl)); shape = refl }; stored = refl; index = refl }, record { operator = (int_promoted, refl, refl, refl, (_, refl, refl)); right = tt })), (record { object = record { visible = (omega arith, (1, omega arith, refl)); shape = refl }; stored = refl; index = refl }, (_, refl, (refl, ((int_promoted, refl, refl, refl, (_, refl, refl)), (record { visible = (omega arith, (1, omega arith, refl)); shape = refl }, refl), (record { visible = (omega arith, (0, omega arith, refl)); shape = refl }, refl))))), (_, refl, refl)), ((((refl, int_promoted, refl, refl, refl), (record { visible = (omega arith, (0, omega arith, refl)); shape = refl }, refl), (int_promoted, in_int 3 (omega arith))), (_, refl, refl)), tt))), refl, refl, refl) }))
+      (record { result = Single true; body = (omega arith, all_none _, ((_, refl, (_, refl, (refl, (int_promoted, in_int 0 (omega arith))))), ((((_, refl, (_, refl, (refl, (int_promoted, in_int 0 (omega arith))))), tt), refl, ((refl, int_promoted, refl, refl, refl), (record { visible = (omega arith, (0, omega arith, refl)); shape = refl }, refl), (int_promoted, in_int 3 (omega arith))), (refl, (record { object = record { visible = (omega arith, (0, omega arith, refl)); shape = refl }; stored = refl; index = refl }, record { updates = refl; operator = (int_promoted, refl, refl, refl, (_, refl, refl)); right = tt })), (record { object = record { visible = (omega arith, (1, omega arith, refl)); shape = refl }; stored = refl; index = refl }, (_, refl, (refl, ((int_promoted, refl, refl, refl, (_, refl, refl)), (record { visible = (omega arith, (1, omega arith, refl)); shape = refl }, refl), (record { visible = (omega arith, (0, omega arith, refl)); shape = refl }, refl))))), (_, refl, refl)), ((((refl, int_promoted, refl, refl, refl), (record { visible = (omega arith, (0, omega arith, refl)); shape = refl }, refl), (int_promoted, in_int 3 (omega arith))), (_, refl, refl)), tt))), refl, refl, refl) }))
       (all_none _) (all_two FitsVar _ _ (var_fits int 0 (Single true)) (var_fits int 0 (Single true))) (all_none _) (below_two (λ x. count_by (eqb x) (declared_by summing.program.functions) ≡ 1) refl refl) (_, refl, refl, refl) (omega arith);
   module_ = counter_fits;
   binding = record {
@@ -85,7 +85,7 @@ pub disabling_fits : IsWellFormed disabling
 unfolding hidden-the_row-TStmt-0 hidden-the_row-TStmt-1 hidden-the_row-Group-2 hidden-the_row-TExpr-0 hidden
 disabling_fits = record {
   program = program_fits disabling.program (λ f fn is. among_one (FitsFunction disabling.program) _ fn f is
-      (record { result = Single true; body = (omega arith, all_none _, ((record { object = record { visible = (_, refl, refl); shape = refl }; stored = refl; index = refl }, (_, refl, (refl, (Byte false, record { low = omega (arith, ints); high = omega (arith, ints) })))), (tt, ((_, refl, refl), ((((refl, int_promoted, refl, refl, refl), (Single true, (record { visible = (_, refl, refl); shape = refl }, refl)), (int_promoted, in_int 0 (omega arith))), (_, refl, refl)), tt)))), refl, refl, refl) }))
+      (record { result = Single true; body = (omega arith, all_none _, ((record { object = record { visible = (_, refl, refl); shape = refl }; stored = refl; index = refl }, (_, refl, (refl, (Byte false, (int_promoted, in_int 0 (omega arith)))))), (tt, ((_, refl, refl), ((((refl, int_promoted, refl, refl, refl), (Single true, (record { visible = (_, refl, refl); shape = refl }, refl)), (int_promoted, in_int 0 (omega arith))), (_, refl, refl)), tt)))), refl, refl, refl) }))
       (all_none _) (all_none _) (all_two FitsMember _ _ (a_member_fits 0) (a_member_fits 0)) (λ x lt. absurd (omega arith)) (_, refl, refl, refl) (omega arith);
   module_ = enabled_fits;
   binding = record {
@@ -99,7 +99,7 @@ pub not_disabling_fits : IsWellFormed not_disabling
 unfolding hidden-the_row-TStmt-0 hidden-the_row-TStmt-1 hidden-the_row-Group-2 hidden-the_row-TExpr-0 hidden
 not_disabling_fits = record {
   program = program_fits not_disabling.program (λ f fn is. among_one (FitsFunction not_disabling.program) _ fn f is
-      (record { result = Single true; body = (omega arith, all_none _, ((record { object = record { visible = (_, refl, refl); shape = refl }; stored = refl; index = refl }, (_, refl, (refl, (Byte false, record { low = omega (arith, ints); high = omega (arith, ints) })))), ((_, refl, refl), ((((refl, int_promoted, refl, refl, refl), (Single true, (record { visible = (_, refl, refl); shape = refl }, refl)), (int_promoted, in_int 0 (omega arith))), (_, refl, refl)), tt))), refl, refl, refl) }))
+      (record { result = Single true; body = (omega arith, all_none _, ((record { object = record { visible = (_, refl, refl); shape = refl }; stored = refl; index = refl }, (_, refl, (refl, (Byte false, (int_promoted, in_int 0 (omega arith)))))), ((_, refl, refl), ((((refl, int_promoted, refl, refl, refl), (Single true, (record { visible = (_, refl, refl); shape = refl }, refl)), (int_promoted, in_int 0 (omega arith))), (_, refl, refl)), tt))), refl, refl, refl) }))
       (all_none _) (all_none _) (all_two FitsMember _ _ (a_member_fits 0) (a_member_fits 0)) (λ x lt. absurd (omega arith)) (_, refl, refl, refl) (omega arith);
   module_ = enabled_fits;
   binding = record {
@@ -271,7 +271,7 @@ pub memory_reader_fits : IsWellFormed reading_past_a_memory
 unfolding hidden-the_row-TStmt-0 hidden-the_row-TStmt-1 hidden-the_row-Group-2 hidden-the_row-TExpr-0 hidden
 memory_reader_fits = record {
   program = program_fits reading_past_a_memory.program (λ f fn is. among_one (FitsFunction reading_past_a_memory.program) _ fn f is
-      (record { result = Single true; body = (omega arith, all_none _, ((record { object = record { visible = (_, refl, refl); shape = refl }; stored = refl; index = refl }, (_, refl, (refl, (Byte false, record { low = omega (arith, ints); high = omega (arith, ints) })))), (tt, ((((refl, int_promoted, refl, refl, refl), (Single true, (record { visible = (_, refl, refl); shape = refl }, refl, (_, refl, refl), (int_promoted, in_int 1 (omega arith)))), (int_promoted, in_int 5 (omega arith))), (_, refl, refl)), ((((refl, int_promoted, refl, refl, refl), (Single true, (record { visible = (_, refl, refl); shape = refl }, refl)), (int_promoted, in_int 0 (omega arith))), (_, refl, refl)), tt)))), refl, refl, refl) }))
+      (record { result = Single true; body = (omega arith, all_none _, ((record { object = record { visible = (_, refl, refl); shape = refl }; stored = refl; index = refl }, (_, refl, (refl, (Byte false, (int_promoted, in_int 3 (omega arith)))))), (tt, ((((refl, int_promoted, refl, refl, refl), (Single true, (record { visible = (_, refl, refl); shape = refl }, refl, (_, refl, refl), (int_promoted, in_int 1 (omega arith)))), (int_promoted, in_int 5 (omega arith))), (_, refl, refl)), ((((refl, int_promoted, refl, refl, refl), (Single true, (record { visible = (_, refl, refl); shape = refl }, refl)), (int_promoted, in_int 0 (omega arith))), (_, refl, refl)), tt)))), refl, refl, refl) }))
       (all_none _) (all_none _) (all_three FitsMember _ _ _ (a_member_fits 0) (a_member_fits 0) (a_member_fits 3)) (λ x lt. absurd (omega arith)) (_, refl, refl, refl) (omega arith);
   module_ = memory_fits;
   binding = record {

@@ -68,7 +68,7 @@ enabled_by body = pair_of (main_of body ∷ []) []
     (properties (kind.Frame ∷ kind.Assertion ∷ [])) enabled
 
 abbrev cleared : SNode
-cleared = Store (target (InMirror 0)) (Values (expr byte (Const (pos 0)) ∷ []))
+cleared = Store (target (InMirror 0)) (Values (expr byte (Convert (number 0)) ∷ []))
 
 abbrev count_is_0 : SNode
 count_is_0 = Assert (compare binary.Eq (member 1) (number 0)) (prop 1)
@@ -159,7 +159,7 @@ idle m = pair_of (main_of [] ∷ []) [] [] [] (properties []) m
 -- `mem.addr = 3; set_inputs(); assert(mem.ram[1] == 5); assert(mem.q == 0);`
 abbrev pub reading_past_a_memory : Pair
 reading_past_a_memory = pair_of (main_of (
-    Store (target (InMirror 0)) (Values (expr byte (Const (pos 3)) ∷ []))
+    Store (target (InMirror 0)) (Values (expr byte (Convert (number 3)) ∷ []))
     ∷ SetInputs
     ∷ Assert (compare binary.Eq (expr int (Convert (expr byte (Index (InMirror 2) (number 1) (prop 0))))) (number 5)) (prop 1)
     ∷ Assert (compare binary.Eq (member 1) (number 0)) (prop 2) ∷ []) ∷ []) []

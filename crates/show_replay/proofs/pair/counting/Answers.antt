@@ -1,4 +1,4 @@
-use Rattle.std.proofs.Common.{◌≡◌, arith}
+use Rattle.std.proofs.Common.{arith}
 use Rattle.show_replay.proofs.Same.{well_formed}
 use Rattle.show_replay.proofs.pair.counting.Goals as goal
 
