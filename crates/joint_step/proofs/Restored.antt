@@ -100,8 +100,8 @@ module _ (p : Pair) (b : Bounds) (w : IsWellFormed p) (f : ℕ) (fn : Function) 
         let le = params_before fn body fits.3 in
         let count = taken.count in
         let first : P (state_of mid) = went_with P way_to.Next old mid (set_params line fn.first args)
-            (params_keep fn.first end old.store.locals line fn.first args (le_refl fn.first) (omega (arith, le, count)))
-            (record { count = refl; before = refl; behind = refl }) begun in
+        (params_keep fn.first end old.store.locals line fn.first args (le_refl fn.first) (omega (arith, le, count)))
+        (record { count = refl; before = refl; behind = refl }) begun in
         went_with P way mid new (after (record { pair = p; bounds = b; here = f }) (calls_at p b left standing) body.place body.node)
         (own_keeps p b left standing old.store.locals f fn body fits) first done
 

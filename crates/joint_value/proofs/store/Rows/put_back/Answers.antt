@@ -9,8 +9,18 @@ use Rattle.joint_value.proofs.store.Rows.put_back.Goals as goal
 pub overflow_add-end : goal.overflow_add-end
 overflow_add-end c =
     let f : Vec ℤ → List ℤ = λ v. v.items in
-    omega (arith, c.requires, ap length c.self.view_is, ap length c.others.view_is, length-map c.self.inside.rows.items f, length-map c.others.inside.rows.items f,
-    c.self.inside.rows.ok.0, c.others.inside.rows.ok.0, c.len.ensures, c.self.inside.rows.small)
+    omega (
+      arith,
+      c.requires,
+      ap length c.self.view_is,
+      ap length c.others.view_is,
+      length-map c.self.inside.rows.items f,
+      length-map c.others.inside.rows.items f,
+      c.self.inside.rows.ok.0,
+      c.others.inside.rows.ok.0,
+      c.len.ensures,
+      c.self.inside.rows.small,
+    )
 
 pub returns : goal.returns
 returns c =
