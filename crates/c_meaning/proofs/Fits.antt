@@ -138,7 +138,7 @@ second false v n h = absurd (cc)
 -- a constant's type, and its value
 abbrev IsHeld : Option IntType → ℕ → Type 0
 IsHeld None v = Unit {0}
-IsHeld (Some t) v = IsType t × InRange t (pos v)
+IsHeld (Some t) v = IsPromoted t × InRange t (pos v)
 
 int_holds : (v : ℕ) → v < 2147483648 → InRange int (pos v)
 int_holds v h = record { low = omega (arith, ints); high = omega (arith, ints) }
@@ -159,10 +159,10 @@ held decimal u l v =
   where
     pick : (p q r s : Bool) → (p ≡ true → v < 2147483648) → (q ≡ true → v < 4294967296) → (r ≡ true → v < 9223372036854775808) → (s ≡ true → v < 18446744073709551616) →
         IsHeld (cond p (Some int) (cond q (Some (sized 32 false)) (cond r (Some (sized 64 true)) (cond s (Some (sized 64 false)) None)))) v
-    pick true q r s f g h k = (Single true, int_holds v (f refl))
-    pick false true r s f g h k = (Single false, unsigned_holds v (g refl))
-    pick false false true s f g h k = (Double true, long_holds v (h refl))
-    pick false false false true f g h k = (Double false, unsigned_long_holds v (k refl))
+    pick true q r s f g h k = (int_wide, int_holds v (f refl))
+    pick false true r s f g h k = (record { type = Single false; wide = omega arith }, unsigned_holds v (g refl))
+    pick false false true s f g h k = (record { type = Double true; wide = omega arith }, long_holds v (h refl))
+    pick false false false true f g h k = (record { type = Double false; wide = omega arith }, unsigned_long_holds v (k refl))
     pick false false false false f g h k = tt
 
 zero_in : (t : IntType) → IsType t → InRange t (pos 0)
@@ -176,15 +176,15 @@ zero_in _ (Single false) = record { low = omega (arith, ints); high = omega (ari
 zero_in _ (Double true) = record { low = omega (arith, ints); high = omega (arith, ints) }
 zero_in _ (Double false) = record { low = omega (arith, ints); high = omega (arith, ints) }
 
-kept_fits : (o : Option IntType) (v : ℕ) → IsHeld o v → IsType (type_or_int o) × InRange (type_or_int o) (pos (kept o v))
-kept_fits None v h = (int_is, zero_in int int_is)
+kept_fits : (o : Option IntType) (v : ℕ) → IsHeld o v → IsPromoted (type_or_int o) × InRange (type_or_int o) (pos (kept o v))
+kept_fits None v h = (int_wide, zero_in int int_is)
 kept_fits (Some t) v h = pick (nat_lt v 18446744073709551616)
   where
-    pick : (q : Bool) → IsType t × InRange t (pos (cond q v 0))
+    pick : (q : Bool) → IsPromoted t × InRange t (pos (cond q v 0))
     pick true = h
-    pick false = (h.0, zero_in t h.0)
+    pick false = (h.0, zero_in t h.0.type)
 
-literal_fits : (spelled : List ℕ) → IsType (type_or_int (literal_of spelled).ty) × InRange (type_or_int (literal_of spelled).ty) (pos (literal_of spelled).value)
+literal_fits : (spelled : List ℕ) → IsPromoted (type_or_int (literal_of spelled).ty) × InRange (type_or_int (literal_of spelled).ty) (pos (literal_of spelled).value)
 literal_fits spelled = kept_fits _ (value_of (body_of spelled)) (held (not (is_octal (body_of spelled))) _ _ (value_of (body_of spelled)))
 
 -- what a path leads to is there, and has the shape that is wanted
@@ -253,7 +253,7 @@ module _ (c : well.Scope) (env : List Scope) (names : AreThere c env) where
     path_type_is (path.Element' o p _ (path.more_of-Expression e _)) = found_type_is c true (found env true o) (path_is c env true o names)
 
     pub type_is : (e : Expression) → IsType (type_of env e)
-    type_is (expression.Integer p spelled) = (literal_fits spelled).0
+    type_is (expression.Integer p spelled) = (literal_fits spelled).0.type
     type_is (expression.Character p value) = int_is
     type_is (expression.True p) = int_is
     type_is (expression.False p) = int_is
@@ -384,24 +384,24 @@ module _ (c : well.Scope) (all : List Site) (props : AreProps all c.program) whe
       let wide = common_is y.ty z.ty is is' in
       let a = converted_fits t y wide.type h' in
       let d = converted_fits t z wide.type h'' in
-      (a.0, d.0, h, a.1, d.1)
+      (wide, a.0, d.0, h, a.1, d.1)
 
   cast_fits : (p : Place) (t : IntType) (x : TExpr) → IsType t → FitsExpr c x → FitsExpr c (cast_typed p t x)
   unfolding hidden-the_row-TExpr-0 hidden
   cast_fits p t x is h = (is, h)
 
-  constant_fits : (p : Place) (t : IntType) (n : ℕ) → IsType t → InRange t (pos n) → FitsExpr c (constant_typed p t n)
+  constant_fits : (p : Place) (t : IntType) (n : ℕ) → IsPromoted t → InRange t (pos n) → FitsExpr c (constant_typed p t n)
   constant_fits p t n is h = (is, h)
 
   object_fits : (p : Place) (f : Found) → IsShaped c false f → FitsExpr c (object_typed p f)
-  object_fits p Unknown h = (int_is, zero_in int int_is)
-  object_fits p Other h = (int_is, zero_in int int_is)
+  object_fits p Unknown h = (int_wide, zero_in int int_is)
+  object_fits p Other h = (int_wide, zero_in int int_is)
   object_fits p (Integer o) h = (record { visible = h.0.visible; shape = ap (nat_lt 0) h.0.length ∙ h.1 }, h.0.ty)
 
   element_fits : (p q : Place) (f : Found) (x : TExpr) (at : ℕ) → IsShaped c true f → FitsExpr c x → StandAt all at (bounds_site q) → FitsExpr c (element_typed p f x at)
   unfolding hidden-the_row-TExpr-0 hidden
-  element_fits p q Unknown x at h g s = (int_is, zero_in int int_is)
-  element_fits p q Other x at h g s = (int_is, zero_in int int_is)
+  element_fits p q Unknown x at h g s = (int_wide, zero_in int int_is)
+  element_fits p q Other x at h g s = (int_wide, zero_in int int_is)
   element_fits p q (Integer o) x at h g s = (record { visible = h.0.visible; shape = ap (nat_lt 0) h.0.length ∙ h.1 }, h.0.ty, there kind.Bounds q at s, g)
 
   module _ (env : List Scope) (names : AreThere c env) where
@@ -414,9 +414,9 @@ module _ (c : well.Scope) (all : List Site) (props : AreProps all c.program) whe
 
       fits : (at : ℕ) (e : Expression) → AreBytes e → StandAt all at (sites_in env e) → FitsExpr c (typed_of env at e)
       fits at (expression.Integer p spelled) v h = literal_fits spelled
-      fits at (expression.Character p value) v h = (int_is, int_holds value (omega (arith, v)))
-      fits at (expression.True p) v h = (int_is, int_holds 1 (omega arith))
-      fits at (expression.False p) v h = (int_is, zero_in int int_is)
+      fits at (expression.Character p value) v h = (int_wide, int_holds value (omega (arith, v)))
+      fits at (expression.True p) v h = (int_wide, int_holds 1 (omega arith))
+      fits at (expression.False p) v h = (int_wide, zero_in int int_is)
       fits at (expression.Read x) v h = path_fits at x v h
       fits at (expression.Parentheses' p _ (expression.more_of-Expression e _)) v h = fits at e v h
       fits at (expression.Unary' mark _ (expression.more_of-Expression e _)) v h =

@@ -161,7 +161,7 @@ module _ (e c0 test a got b more : TExpr) (is : e.node ≡ Choose c0 a b) (is_c 
 
   pub fits_choose : (c : Scope) → FitsExpr c e → (got.ty ≡ e.ty) × (more.ty ≡ e.ty) × FitsExpr c test × FitsExpr c got × FitsExpr c more
   unfolding hidden-the_row-TExpr-0 hidden
-  fits_choose c f = subst (FitsNode c e.ty) choose_node f
+  fits_choose c f = let h = subst (FitsNode c e.ty) choose_node f in (h.1, h.2, h.3, h.4, h.5)
 
   value_choose : (rows : Rows) → value_of rows e ≡ and_then (value_of rows test) (λ x. if is_zero x then value_of rows more else value_of rows got)
   unfolding hidden-the_row-TExpr-0 hidden
