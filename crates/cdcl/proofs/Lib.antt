@@ -22,3 +22,4 @@ pub mod Levels
 pub mod Answered
 pub mod Watching
 pub mod Marking
+pub mod Picks

@@ -9,3 +9,4 @@ pub mod Table
 pub mod Watched
 pub mod Watching
 pub mod Marks
+pub mod Pick

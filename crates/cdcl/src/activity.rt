@@ -2,6 +2,7 @@
 
 ghost use Rattle.std.specs.Prelude.{◌≡◌, ◌≤◌, ◌<◌, ◌^◌, ℕ, true, length, slice_index, vec_len, EachIndex};
 ghost use Rattle.clause_arena.specs.Clause.{is_below};
+ghost use Rattle.cdcl.specs.Pick.{IsPick, IsBetter};
 
 use crate::chooser::Chooser;
 use crate::trail::FREE;
@@ -89,16 +90,29 @@ impl Chooser for ActivityChooser {
         self.grow();
     }
 
-    fn pick(&mut self, values: &[u8]) -> u32 {
+    fn pick(&mut self, values: &[u8]) -> u32
+        requires { length values.now ≡ vec_len self.old.activities }
+        ensures ready { vec_len self.new.activities ≡ vec_len self.old.activities }
+        // The free variable with the greatest number, the lowest at a tie, or 0 where none is free.
+        ensures best { IsPick (IsBetter self.old.activities.items) values.now result }
+        ensures numbers { self.new.activities.items ≡ self.old.activities.items }
+    {
         let mut best: Option<usize> = None;
         for var in 0..values.len() {
             if values[var] != FREE {
                 continue;
             }
-            match best {
-                Some(other) if self.activities[other] >= self.activities[var] => {}
-                _ => best = Some(var),
+            let other = match best {
+                None => {
+                    best = Some(var);
+                    continue;
+                }
+                Some(other) => other,
+            };
+            if self.activities[other] >= self.activities[var] {
+                continue;
             }
+            best = Some(var);
         }
         match best {
             Some(var) => var as u32,

@@ -1,6 +1,7 @@
 //! The variables in their order.
 
-ghost use Rattle.std.specs.Prelude.{◌≡◌, true, length, OnOk};
+ghost use Rattle.std.specs.Prelude.{◌≡◌, ◌<◌, true, length, OnOk};
+ghost use Rattle.cdcl.specs.Pick.{IsPick};
 ghost use Rattle.clause_arena.specs.Clause.{is_below};
 
 use crate::chooser::Chooser;
@@ -30,7 +31,12 @@ impl Chooser for OrderChooser {
 
     fn learned(&mut self, _lits: &[Lit]) {}
 
-    fn pick(&mut self, values: &[u8]) -> u32 {
+    fn pick(&mut self, values: &[u8]) -> u32
+        requires { length values.now ≡ self.old.vars }
+        ensures ready { self.new.vars ≡ self.old.vars }
+        // The lowest free variable, or 0 where none is free.
+        ensures lowest { IsPick (λ v w. v < w) values.now result }
+    {
         for var in 0..self.vars {
             if values[var as usize] == FREE {
                 return var;

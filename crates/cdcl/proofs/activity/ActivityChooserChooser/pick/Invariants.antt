@@ -1,6 +1,6 @@
-use Rattle.std.proofs.Common.{◌<◌, length}
-use Rattle.std.specs.Option.{ForSome}
+use Rattle.std.proofs.Common.{MatchOption}
+use Rattle.cdcl.proofs.Picks.{NoneSoFar, BestSoFar}
 use Rattle.cdcl.proofs.activity.ActivityChooserChooser.pick.Given as goal
 
 abbrev pub invariant-loop-var : goal.invariant-loop-var
-invariant-loop-var l = ForSome l.best (λ v. v < length l.values)
+invariant-loop-var l = MatchOption l.best (NoneSoFar l.values l.var) (BestSoFar l.self.activities.items l.values l.var)
