@@ -1,0 +1,3 @@
+mod Without
+mod Same
+mod Both
