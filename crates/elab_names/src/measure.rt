@@ -34,7 +34,8 @@ pub enum Measured {
     Conditional(Worth, Boxed<Measured>, Boxed<Measured>),
 }
 
-fn greater(x: Option<u8>, y: Option<u8>) -> Option<u8>
+/// The greater of two lengths.
+pub fn greater(x: Option<u8>, y: Option<u8>) -> Option<u8>
     ensures { result ≡ greater_of x y }
 {
     match x {
