@@ -51,7 +51,7 @@ at_known a a' k old new s got t is_a is_s is_k h =
     }
 
 -- as a statement that is known by its parts
-seen_as : (a : Around) (old new : Typer) (s z : Statement) → s ≡ z → Goes old new (offences_of a (known_of old) z) (known_after z (known_of old)) → Goes old new (offences_of a (known_of old) s) (known_after s (known_of old))
+pub seen_as : (a : Around) (old new : Typer) (s z : Statement) → s ≡ z → Goes old new (offences_of a (known_of old) z) (known_after z (known_of old)) → Goes old new (offences_of a (known_of old) s) (known_after s (known_of old))
 seen_as a old new s z is g = subst (λ y. Goes old new (offences_of a (known_of old) y) (known_after y (known_of old))) (sym is) g
 
 pub if_case : (a : Around) (old mid new : Typer) (s b got : Statement) (p : Place) (c : Expression) (x held : TExpr) (u kept : TStmt) → s ≡ statement.If p c b → got ≡ b →

@@ -10,6 +10,7 @@ use Rattle.c_tree.specs.declared.declarations.Local.{Local}
 use Rattle.c_tree.specs.declared.expressions.Expression.{Expression}
 use Rattle.c_tree.specs.declared.statements.BlockItem.{BlockItem}
 use Rattle.c_tree.specs.declared.statements.BlockItem as block_item
+use Rattle.c_tree.specs.declared.statements.Group.{Group}
 use Rattle.c_tree.specs.declared.statements.ForFirst.{ForFirst}
 use Rattle.c_tree.specs.declared.statements.ForFirst.TheVariants as for_first
 use Rattle.c_tree.specs.declared.statements.Simple.{Simple}
@@ -23,7 +24,9 @@ use Rattle.joint_ir.specs.declared.program.PropId.{PropId}
 use Rattle.joint_ir.specs.declared.program.PropKind.{PropKind}
 use Rattle.joint_ir.specs.declared.program.PropKind.TheVariants as kind
 use Rattle.joint_ir.specs.declared.program.Var.{Var}
-use Rattle.joint_ir.specs.declared.stmt.SNode.{SNode, Block, Declare, If, Loop, Break, Continue, Return, Assert, Assume}
+use Rattle.joint_ir.specs.declared.stmt.SNode.{SNode, Block, Declare, If, Loop, Switch, Break, Continue, Return, Assert, Assume}
+use Rattle.joint_ir.specs.declared.stmt.Group.{Group as TGroup, roll-Group}
+use Rattle.joint_ir.specs.declared.stmt.Label.{Label as TLabel}
 use Rattle.joint_ir.specs.declared.stmt.TInit.{TInit}
 use Rattle.joint_ir.specs.declared.stmt.TInit.TheVariants as init
 use Rattle.joint_ir.specs.declared.stmt.TLoop.{roll-TLoop}
@@ -31,16 +34,17 @@ use Rattle.joint_ir.specs.declared.stmt.TStmt.{TStmt}
 use Rattle.offence_order.specs.declared.Offence.{Offence}
 use Rattle.c_words.specs.declared.notes.Site.{Site}
 use Rattle.offence_order.specs.Order.{at}
-use Rattle.c_words.specs.Types.{named}
+use Rattle.c_words.specs.Types.{named, promoted}
 use Rattle.c_words.specs.Marks.{number_of}
 use Rattle.c_names.specs.declared.scope.Entry.{Entry}
 use Rattle.c_names.specs.declared.scope.Entry.TheVariants as entry
 use Rattle.c_names.specs.Scope.{Scope, declare, declared_in}
-use Rattle.c_expressions.specs.Expressions.{typed_of, offences_in, sites_in, type_or_int}
+use Rattle.c_expressions.specs.Expressions.{type_of, typed_of, offences_in, sites_in, type_or_int, converted_to}
 use Rattle.c_statements.specs.declared.calls.Signature.{Signature}
 use Rattle.c_statements.specs.declared.walk.Around.{Around}
 use Rattle.c_statements.specs.Calls.{init_offences, init_sites, init_typed, args_offences, args_sites}
 use Rattle.c_statements.specs.Arrays.{declared_length, length_offences, elements_typed}
+use Rattle.c_statements.specs.Switches.{labels_typed, labels_offences}
 use Rattle.c_statements.specs.Simple.{simple_offences, simple_sites, simple_typed}
 use Rattle.c_statements.specs.Known.{Known, with_scopes, enter, leave_scope, more}
 
@@ -219,6 +223,9 @@ id_of k = record { 0 = number_of (length k.sites) }
 abbrev pub in_a_loop : Around → Around
 in_a_loop a = record { result = a.result; in_loop = true; may_break = true }
 
+abbrev pub in_a_switch : Around → Around
+in_a_switch a = record { result = a.result; in_loop = a.in_loop; may_break = true }
+
 -- what is known at the condition, at the last part and at the body of a `for`
 abbrev pub at_condition : Place → ForFirst → Known → Known
 at_condition p first k = first_known first (own kind.Unwind p (enter k))
@@ -229,7 +236,7 @@ at_step p first c k = more (at_condition p first k) (condition_sites (at_conditi
 abbrev pub at_body : Place → ForFirst → Option Expression → Option Simple → Known → Known
 at_body p first c step k = more (at_step p first c k) (step_sites (at_step p first c k) step)
 
--- what is known after a statement. A `switch` isn't typed yet
+-- what is known after a statement
 abbrev mutual
   pub known_after : Statement → Known → Known
   known_after (statement.Compound' p _ items) k = leave_scope (known_after_row items (enter k))
@@ -240,13 +247,21 @@ abbrev mutual
   known_after (statement.While' p c _ (statement.more_of-Statement s _)) k = known_after s (after_expression c (own kind.Unwind p k))
   known_after (statement.Do' p _ (statement.more_of-Statement s _) c) k = after_expression c (known_after s (own kind.Unwind p k))
   known_after (statement.For' p first c step _ (statement.more_of-Statement s _)) k = leave_scope (known_after s (at_body p first c step k))
-  known_after (statement.Switch' p e _ groups) k = k
+  known_after (statement.Switch' p e _ groups) k = known_after_groups groups (after_expression e k)
   known_after (statement.Break p) k = k
   known_after (statement.Continue p) k = k
   known_after (statement.Return p i) k = more k (option_init_sites k.scopes i)
   known_after (statement.Assert p e) k = after_expression e (own kind.Assertion p k)
   known_after (statement.CproverAssert p e) k = after_expression e (own kind.Assertion p k)
   known_after (statement.CproverAssume p e) k = after_expression e k
+
+  pub known_after_groups : {m : _} → statement.Row_of-Group m → Known → Known
+  known_after_groups statement.end_of-Group k = k
+  known_after_groups (statement.more_of-Group p labels _ body row) k = known_after_groups row (known_after_stmts body k)
+
+  pub known_after_stmts : {m : _} → statement.Row_of-Statement m → Known → Known
+  known_after_stmts statement.end_of-Statement k = k
+  known_after_stmts (statement.more_of-Statement x row) k = known_after_stmts row (known_after x k)
 
   pub known_after_item : BlockItem → Known → Known
   known_after_item (block_item.Local l) k = local_known l k
@@ -272,13 +287,23 @@ abbrev mutual
   offences_of a k (statement.For' p first c step _ (statement.more_of-Statement s _)) =
       first_offences (own kind.Unwind p (enter k)) first
       ++ (condition_offences (at_condition p first k) c ++ (step_offences (at_step p first c k) step ++ offences_of (in_a_loop a) (at_body p first c step k) s))
-  offences_of a k (statement.Switch' p e _ groups) = []
+  offences_of a k (statement.Switch' p e _ groups) =
+      offences_in k.scopes e ++ groups_offences (in_a_switch a) (after_expression e k) (promoted (type_of k.scopes e)) [] groups
   offences_of a k (statement.Break p) = jump_offences p a.may_break
   offences_of a k (statement.Continue p) = jump_offences p a.in_loop
   offences_of a k (statement.Return p i) = return_offences p a.result i ++ option_init_offences k.fns k.scopes i
   offences_of a k (statement.Assert p e) = offences_in k.scopes e
   offences_of a k (statement.CproverAssert p e) = offences_in k.scopes e
   offences_of a k (statement.CproverAssume p e) = offences_in k.scopes e
+
+  pub groups_offences : {m : _} → Around → Known → IntType → (seen : List TLabel) → statement.Row_of-Group m → List Offence
+  groups_offences a k t seen statement.end_of-Group = []
+  groups_offences a k t seen (statement.more_of-Group p labels _ body row) =
+      labels_offences k.scopes t seen labels ++ (stmts_offences a k body ++ groups_offences a (known_after_stmts body k) t (seen ++ labels_typed t labels) row)
+
+  pub stmts_offences : {m : _} → Around → Known → statement.Row_of-Statement m → List Offence
+  stmts_offences a k statement.end_of-Statement = []
+  stmts_offences a k (statement.more_of-Statement x row) = offences_of a k x ++ stmts_offences a (known_after x k) row
 
   pub item_offences : Around → Known → BlockItem → List Offence
   item_offences a k (block_item.Local l) = local_offences k l
@@ -290,6 +315,9 @@ abbrev mutual
 
 abbrev pub while_typed : PropId → TExpr → TStmt → SNode
 while_typed id c s = Loop (roll-TLoop (record { tests_first = true; heads = []; cond = Some c; step = None; body = s; unwind = id }))
+
+abbrev pub group_typed : List TLabel → List TStmt → TGroup
+group_typed labels body = roll-Group (record { labels = labels; body = body })
 
 abbrev pub do_typed : PropId → TExpr → TStmt → SNode
 do_typed id c s = Loop (roll-TLoop (record { tests_first = false; heads = []; cond = Some c; step = None; body = s; unwind = id }))
@@ -321,13 +349,23 @@ abbrev mutual
   stmt_typed a k (statement.For' p first c step _ (statement.more_of-Statement s _)) =
       stmt_at p (for_typed (id_of k) (first_typed (own kind.Unwind p (enter k)) first) (condition_typed (at_condition p first k) c) (step_typed (at_step p first c k) step)
       (stmt_typed (in_a_loop a) (at_body p first c step k) s))
-  stmt_typed a k (statement.Switch' p e _ groups) = stmt_at p (Block [])
+  stmt_typed a k (statement.Switch' p e _ groups) =
+      let t = promoted (type_of k.scopes e) in
+      stmt_at p (Switch (converted_to t (typed_of k.scopes (length k.sites) e)) (groups_typed (in_a_switch a) (after_expression e k) t groups))
   stmt_typed a k (statement.Break p) = stmt_at p Break
   stmt_typed a k (statement.Continue p) = stmt_at p Continue
   stmt_typed a k (statement.Return p i) = stmt_at p (return_typed k a.result i)
   stmt_typed a k (statement.Assert p e) = assert_typed p k e
   stmt_typed a k (statement.CproverAssert p e) = assert_typed p k e
   stmt_typed a k (statement.CproverAssume p e) = stmt_at p (Assume (typed_of k.scopes (length k.sites) e))
+
+  pub groups_typed : {m : _} → Around → Known → IntType → statement.Row_of-Group m → List TGroup
+  groups_typed a k t statement.end_of-Group = []
+  groups_typed a k t (statement.more_of-Group p labels _ body row) = group_typed (labels_typed t labels) (stmts_typed a k body) ∷ groups_typed a (known_after_stmts body k) t row
+
+  pub stmts_typed : {m : _} → Around → Known → statement.Row_of-Statement m → List TStmt
+  stmts_typed a k statement.end_of-Statement = []
+  stmts_typed a k (statement.more_of-Statement x row) = stmt_typed a k x ∷ stmts_typed a (known_after x k) row
 
   pub item_typed : Around → Known → BlockItem → List TStmt
   item_typed a k (block_item.Local l) = local_typed k l
@@ -349,3 +387,28 @@ items_offences a k (x ∷ xs) = item_offences a k x ++ items_offences a (known_a
 abbrev pub items_typed : Around → Known → List BlockItem → List TStmt
 items_typed a k [] = []
 items_typed a k (x ∷ xs) = item_typed a k x ++ items_typed a (known_after_item x k) xs
+
+abbrev pub statements_known : List Statement → Known → Known
+statements_known [] k = k
+statements_known (x ∷ xs) k = statements_known xs (known_after x k)
+
+abbrev pub statements_offences : Around → Known → List Statement → List Offence
+statements_offences a k [] = []
+statements_offences a k (x ∷ xs) = offences_of a k x ++ statements_offences a (known_after x k) xs
+
+abbrev pub statements_typed : Around → Known → List Statement → List TStmt
+statements_typed a k [] = []
+statements_typed a k (x ∷ xs) = stmt_typed a k x ∷ statements_typed a (known_after x k) xs
+
+abbrev pub cases_known : List Group → Known → Known
+cases_known [] k = k
+cases_known (g ∷ gs) k = cases_known gs (statements_known g.body k)
+
+abbrev pub cases_offences : Around → Known → IntType → (seen : List TLabel) → List Group → List Offence
+cases_offences a k t seen [] = []
+cases_offences a k t seen (g ∷ gs) =
+    labels_offences k.scopes t seen g.labels ++ (statements_offences a k g.body ++ cases_offences a (statements_known g.body k) t (seen ++ labels_typed t g.labels) gs)
+
+abbrev pub cases_typed : Around → Known → IntType → List Group → List TGroup
+cases_typed a k t [] = []
+cases_typed a k t (g ∷ gs) = group_typed (labels_typed t g.labels) (statements_typed a k g.body) ∷ cases_typed a (statements_known g.body k) t gs

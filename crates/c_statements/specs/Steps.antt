@@ -14,6 +14,8 @@ use Rattle.joint_ir.specs.declared.stmt.TUpdate.{TUpdate}
 use Rattle.joint_ir.specs.declared.stmt.SNode.{SNode}
 use Rattle.joint_ir.specs.declared.stmt.TInit.{TInit}
 use Rattle.c_tree.specs.declared.expressions.Path.{Path}
+use Rattle.c_tree.specs.declared.statements.Label.{Label}
+use Rattle.joint_ir.specs.declared.stmt.Label.{Label as TLabel}
 use Rattle.c_words.specs.declared.notes.Notes.{Notes}
 use Rattle.c_words.specs.Notes.{noted}
 use Rattle.c_names.specs.Scope.{Scope}
@@ -24,6 +26,7 @@ use Rattle.c_statements.specs.Simple.{target_typed, target_offences, updated, up
 use Rattle.c_constants.specs.declared.Constant.{Constant}
 use Rattle.c_constants.specs.Constants.{constant_of, told}
 use Rattle.c_statements.specs.Arrays.{elements_typed, array_offences}
+use Rattle.c_statements.specs.Switches.{label_typed, label_offences, labels_typed, labels_offences, listed}
 use Rattle.c_statements.specs.Calls.{args_typed, args_offences, args_sites, call_args, call_offences, init_typed, init_offences, init_sites}
 
 pub record AreArgs (env : List Scope) (old new : Notes) (params : List IntType) (args : List Expression) (ts : List TExpr) : Type 0 where
@@ -68,3 +71,13 @@ pub record AreElements (env : List Scope) (old new : Notes) (t : IntType) (es : 
 pub record IsLength (env : List Scope) (old new : Notes) (e : Expression) (c : Constant) : Type 0 where
   pub value : c ≡ constant_of e
   pub notes : new ≡ told old (array_offences env e)
+
+-- a label of a switch, and what stood before it
+pub record IsLabel (env : List Scope) (old new : Notes) (t : IntType) (l : Label) (before : List TLabel) (found : Option TLabel) : Type 0 where
+  pub value : listed found ≡ label_typed t l
+  pub notes : new ≡ told old (label_offences env t before l)
+
+pub record AreLabels (env : List Scope) (old new : Notes) (t : IntType) (ls : List Label) (before after typed : List TLabel) : Type 0 where
+  pub values : typed ≡ labels_typed t ls
+  pub seen : after ≡ before ++ labels_typed t ls
+  pub notes : new ≡ told old (labels_offences env t before ls)

@@ -1,14 +1,17 @@
 -- Statements and lists of them, typed.
-use Rattle.std.specs.Prelude.{◌≡◌, ℕ, Bool, List, ◌++◌, drop}
+use Rattle.std.specs.Prelude.{◌≡◌, ℕ, Bool, List, [], ◌++◌, drop}
 use Rattle.c_tree.specs.declared.declarations.Declarator.{Declarator}
 use Rattle.c_tree.specs.declared.statements.BlockItem.{BlockItem}
+use Rattle.c_tree.specs.declared.statements.Group.{Group}
 use Rattle.c_tree.specs.declared.statements.Statement.{Statement}
 use Rattle.joint_ir.specs.declared.ctype.IntType.{IntType}
+use Rattle.joint_ir.specs.declared.stmt.Group.{Group as TGroup}
+use Rattle.joint_ir.specs.declared.stmt.Label.{Label as TLabel}
 use Rattle.joint_ir.specs.declared.stmt.TStmt.{TStmt}
 use Rattle.offence_order.specs.Order.{first_of}
 use Rattle.c_statements.specs.declared.walk.Around.{Around}
 use Rattle.c_statements.specs.declared.walk.Typer.{Typer}
-use Rattle.c_statements.specs.Statements.{declarators_typed, declarators_offences, declarators_known, stmt_typed, offences_of, known_after, item_typed, item_offences, known_after_item, items_typed, items_offences, items_known}
+use Rattle.c_statements.specs.Statements.{declarators_typed, declarators_offences, declarators_known, stmt_typed, offences_of, known_after, item_typed, item_offences, known_after_item, items_typed, items_offences, items_known, statements_typed, statements_offences, statements_known, cases_typed, cases_offences, cases_known}
 use Rattle.c_statements.specs.Moves.{known_of, Goes}
 
 pub record AreDeclared (t : IntType) (constant : Bool) (old new : Typer) (ds : List Declarator) (ts : List TStmt) : Type 0 where
@@ -37,3 +40,21 @@ pub record ItemsSoFar (a : Around) (old now : Typer) (xs : List BlockItem) (i : 
   pub typed_so : items_typed a (known_of old) xs ≡ done ++ items_typed a (known_of now) (drop i xs)
   pub first_so : first_of old.notes.first (items_offences a (known_of old) xs) ≡ first_of now.notes.first (items_offences a (known_of now) (drop i xs))
   pub known_so : items_known xs (known_of old) ≡ items_known (drop i xs) (known_of now)
+
+pub record AreStmts (a : Around) (old new : Typer) (xs : List Statement) (ts : List TStmt) : Type 0 where
+  pub typed : ts ≡ statements_typed a (known_of old) xs
+  pub goes : Goes old new (statements_offences a (known_of old) xs) (statements_known xs (known_of old))
+
+pub record AreCases (a : Around) (t : IntType) (old new : Typer) (gs : List Group) (ts : List TGroup) : Type 0 where
+  pub typed : ts ≡ cases_typed a (known_of old) t gs
+  pub goes : Goes old new (cases_offences a (known_of old) t [] gs) (cases_known gs (known_of old))
+
+pub record StmtsSoFar (a : Around) (old now : Typer) (xs : List Statement) (i : ℕ) (done : List TStmt) : Type 0 where
+  pub typed_so : statements_typed a (known_of old) xs ≡ done ++ statements_typed a (known_of now) (drop i xs)
+  pub first_so : first_of old.notes.first (statements_offences a (known_of old) xs) ≡ first_of now.notes.first (statements_offences a (known_of now) (drop i xs))
+  pub known_so : statements_known xs (known_of old) ≡ statements_known (drop i xs) (known_of now)
+
+pub record CasesSoFar (a : Around) (t : IntType) (old now : Typer) (gs : List Group) (i : ℕ) (seen : List TLabel) (done : List TGroup) : Type 0 where
+  pub typed_so : cases_typed a (known_of old) t gs ≡ done ++ cases_typed a (known_of now) t (drop i gs)
+  pub first_so : first_of old.notes.first (cases_offences a (known_of old) t [] gs) ≡ first_of now.notes.first (cases_offences a (known_of now) t seen (drop i gs))
+  pub known_so : cases_known gs (known_of old) ≡ cases_known (drop i gs) (known_of now)

@@ -5,5 +5,6 @@
 
 pub mod arrays;
 pub mod calls;
+pub mod labels;
 pub mod simple;
 pub mod walk;

@@ -2,11 +2,12 @@
 
 ghost use Rattle.std.specs.Prelude.{◌≡◌, ◌++◌, ◌<◌, [], length, IfOk, OnOk};
 ghost use Rattle.c_tree.specs.Starts.{simple_start, path_start};
-ghost use Rattle.c_statements.specs.Statements.{again_offences, declared_name as declared_name_of, pending as pending_in, value_typed, value_offences, value_sites, declarator_typed, declarator_offences, declarator_known, local_typed, local_offences, local_known, first_typed, first_offences, first_known, with_local, assert_typed, simple_stmt, condition_typed, condition_offences, condition_sites, step_typed, step_offences, step_sites, return_typed, return_offences, wrong_return, jump_offences, in_a_loop as in_a_loop_of, own as with_own, id_of, after_expression, option_init_typed, option_init_offences, option_init_sites, while_typed as while_typed_of, do_typed as do_typed_of, for_typed as for_typed_of};
+ghost use Rattle.c_statements.specs.Statements.{again_offences, declared_name as declared_name_of, pending as pending_in, value_typed, value_offences, value_sites, declarator_typed, declarator_offences, declarator_known, local_typed, local_offences, local_known, first_typed, first_offences, first_known, with_local, assert_typed, simple_stmt, condition_typed, condition_offences, condition_sites, step_typed, step_offences, step_sites, return_typed, return_offences, wrong_return, jump_offences, in_a_loop as in_a_loop_of, in_a_switch as in_a_switch_of, own as with_own, id_of, after_expression, option_init_typed, option_init_offences, option_init_sites, while_typed as while_typed_of, do_typed as do_typed_of, for_typed as for_typed_of};
+ghost use Rattle.c_statements.specs.Switches.{labels_typed, labels_offences};
 ghost use Rattle.c_statements.specs.Arrays.{declared_length, length_offences};
 ghost use Rattle.c_statements.specs.Known.{more, enter as enter_of, leave_scope, with_scopes};
 ghost use Rattle.c_statements.specs.Moves.{known_of, Goes};
-ghost use Rattle.c_statements.specs.Walks.{AreDeclared, IsStmt, AreItems, IsItem};
+ghost use Rattle.c_statements.specs.Walks.{AreDeclared, IsStmt, AreItems, IsItem, AreStmts, AreCases};
 ghost use Rattle.c_names.specs.Scope.{declared_in};
 ghost use Rattle.c_words.specs.Marks.{number_of};
 ghost use Rattle.c_expressions.specs.Expressions.{typed_of, offences_in};
@@ -15,16 +16,18 @@ ghost use Rattle.c_statements.specs.Calls.{init_typed, init_offences, init_sites
 
 use crate::arrays::{array_length, elements, note_excess, read_length};
 use crate::calls::{Signature, initial};
+use crate::labels::read_labels;
 use crate::simple::simple;
-use c_expressions::expressions::expression;
+use c_expressions::expressions::{converted_to, expression};
 use c_names::scope::{Entry, Scopes, Target};
 use c_tree::{
-    BlockItem, Declarator, Expression, ForFirst, Identifier, Initializer, Local, Path, Simple,
-    Statement,
+    BlockItem, Declarator, Expression, ForFirst, Group, Identifier, Initializer, Label, Local,
+    Path, Simple, Statement,
 };
-use c_words::{INT, Notes, named, number};
+use c_words::{INT, Notes, named, number, promoted};
 use joint_ir::{
-    IntType, PropId, PropKind, SNode, Slot, TExpr, TInit, TLoop, TStmt, TStmtList, Var, VarList,
+    Group as TypedGroup, GroupList, IntType, LabelList, PropId, PropKind, SNode, Slot, TExpr,
+    TInit, TLoop, TStmt, TStmtList, Var, VarList,
 };
 use sqlite_items::{Boxed, Items};
 use src_text::{Kind, Place};
@@ -57,6 +60,16 @@ fn in_a_loop(around: Around) -> Around
     Around {
         result: around.result,
         in_loop: true,
+        may_break: true,
+    }
+}
+
+fn in_a_switch(around: Around) -> Around
+    ensures { result ≡ in_a_switch_of around }
+{
+    Around {
+        result: around.result,
+        in_loop: around.in_loop,
         may_break: true,
     }
 }
@@ -436,6 +449,22 @@ impl Typer {
         }
     }
 
+    /// The labels of a group of a `switch`.
+    fn labels(
+        &mut self,
+        ty: IntType,
+        seen: &mut LabelList,
+        labels: &[Label],
+    ) -> Result<LabelList, AllocError>
+        ensures typed { IfOk result (λ ls. ls ≡ labels_typed ty labels.now) }
+        ensures seen { OnOk result (seen.new ≡ seen.old ++ labels_typed ty labels.now) }
+        ensures goes { OnOk result (Goes self.old self.new (labels_offences self.old.scopes ty seen.old labels.now) (known_of self.old)) }
+    {
+        let ls = read_labels(self.alloc, &self.scopes, &mut self.notes, ty, seen, labels)?;
+        Ok(ls)
+    }
+
+    /// Begins a scope.
     pub fn enter(&mut self) -> Result<(), AllocError>
         ensures { OnOk result (Goes self.old self.new [] (enter_of (known_of self.old))) }
     {
@@ -566,10 +595,16 @@ impl Typer {
                     node,
                 })
             }
-            Statement::Switch(place, _, _) => Ok(TStmt {
-                place: *place,
-                node: SNode::Block(Items::new(self.alloc)),
-            }),
+            Statement::Switch(place, e, groups) => {
+                let x = self.value(e)?;
+                let ty = promoted(x.ty);
+                let test = converted_to(self.alloc, ty, x)?;
+                let cases = self.cases(in_a_switch(around), ty, groups.as_slice())?;
+                Ok(TStmt {
+                    place: *place,
+                    node: SNode::Switch(Boxed::new(self.alloc, test)?, cases),
+                })
+            }
         }
     }
 
@@ -583,6 +618,40 @@ impl Typer {
         for x in items {
             let ts = self.item(around, x)?;
             typed.append(ts)?;
+        }
+        Ok(typed)
+    }
+
+    /// The groups of a `switch` over a type.
+    #[cycle(walk)]
+    fn cases(
+        &mut self,
+        around: Around,
+        ty: IntType,
+        groups: &[Group],
+    ) -> Result<GroupList, AllocError>
+        requires { 0 < length self.old.scopes }
+        ensures { IfOk result (λ ts. AreCases around ty self.old self.new groups.now ts) }
+    {
+        let mut seen = Items::new(self.alloc);
+        let mut typed = Items::new(self.alloc);
+        for g in groups {
+            let labels = self.labels(ty, &mut seen, g.labels.as_slice())?;
+            let body = self.statements(around, g.body.as_slice())?;
+            typed.push(TypedGroup { labels, body })?;
+        }
+        Ok(typed)
+    }
+
+    #[cycle(walk)]
+    fn statements(&mut self, around: Around, xs: &[Statement]) -> Result<TStmtList, AllocError>
+        requires { 0 < length self.old.scopes }
+        ensures { IfOk result (λ ts. AreStmts around self.old self.new xs.now ts) }
+    {
+        let mut typed = Items::new(self.alloc);
+        for x in xs {
+            let t = self.statement(around, x)?;
+            typed.push(t)?;
         }
         Ok(typed)
     }

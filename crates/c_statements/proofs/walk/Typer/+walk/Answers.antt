@@ -1,7 +1,8 @@
 use Rattle.std.proofs.Common.{◌+◌, sym, subst, arith}
 use Rattle.std.proofs.lemmas.Grind.{common_steps}
 use Rattle.c_tree.specs.declared.statements.Statement.{the_lemmas}
-use Rattle.c_statements.specs.Walks.{ItemsSoFar}
+use Rattle.c_statements.specs.Walks.{ItemsSoFar, StmtsSoFar, CasesSoFar}
+use Rattle.c_statements.proofs.Switching.{switch_case, statements_next, cases_next, statements_stand, cases_stand}
 use Rattle.c_statements.proofs.Walking.{if_case, if_else_case, while_case, for_case, block_case, do_case, items_next, items_stand, block_stands, statement_stands, goes_stands, for_stands}
 use Rattle.c_statements.proofs.walk.Typer.+walk.Goals as goal
 
@@ -74,3 +75,31 @@ statement-leave-requires-in-For t c =
     c.in_ok-enter-in-For.ensures c.in_ok-id-in-For.ensures.goes c.in_ok-heads-in-For.ensures.goes c.in_ok-x-in-For.ensures.goes c.in_ok-step-in-For.ensures.goes in
     let e = statement_stands _ c.last.new.self c.statement-in-For.new.self _ _ c.in_ok-t-in-For.ensures in
     omega (arith, d, e, c.requires)
+
+pub statements-loop-x-preserved : goal.statements-loop-x-preserved
+statements-loop-x-preserved t c =
+    subst (StmtsSoFar c.args.around c.args.self.now c.statement.new.self c.args.xs.now (c.loop-x.x-index + 1)) (sym c.in_ok-push.ensures.ok)
+    (statements_next c.args.around c.args.self.now c.loop-x.self c.statement.new.self c.args.xs.now c.loop-x.x-index c.loop-x.typed c.x-item.result c.in_ok-t.t
+    c.loop-x-test.true c.x-item.is c.loop-x.invariant c.in_ok-t.ensures)
+
+pub statements-statement-requires : goal.statements-statement-requires
+statements-statement-requires t c =
+    let d = statements_stand c.args.around c.args.self.now c.loop-x.self c.args.xs.now c.loop-x.x-index c.loop-x.typed c.loop-x.invariant in
+    (grind (the_lemmas, arith, common_steps), omega (arith, d, c.requires))
+
+pub cases-statements-requires : goal.cases-statements-requires
+cases-statements-requires t c =
+    let d = cases_stand c.args.around c.args.ty c.args.self.now c.loop-g.self c.args.groups.now c.loop-g.g-index c.loop-g.seen c.loop-g.typed c.loop-g.invariant in
+    let e = goes_stands c.loop-g.self c.labels.new.self _ _ c.in_ok-labels.ensures.goes in
+    (grind (the_lemmas, arith, common_steps), omega (arith, d, e, c.requires))
+
+pub cases-loop-g-preserved : goal.cases-loop-g-preserved
+cases-loop-g-preserved t c =
+    subst (CasesSoFar c.args.around c.args.ty c.args.self.now c.statements.new.self c.args.groups.now (c.loop-g.g-index + 1) c.labels.new.seen) (sym c.in_ok-push.ensures.ok)
+    (cases_next c.args.around c.args.ty c.args.self.now c.loop-g.self c.labels.new.self c.statements.new.self c.args.groups.now c.loop-g.g-index c.loop-g.seen c.labels.new.seen c.loop-g.typed c.g-item.result c.in_ok-labels.labels _ _ c.in_ok-body.body
+    c.loop-g-test.true c.g-item.is c.loop-g.invariant c.as_slice.ensures c.in_ok-labels.ensures.typed c.in_ok-labels.ensures.seen c.in_ok-labels.ensures.goes c.as_slice-in-loop-g.ensures c.in_ok-body.ensures)
+
+pub statement-returns-in_ok-new-in-Switch : goal.statement-returns-in_ok-new-in-Switch
+statement-returns-in_ok-new-in-Switch t c =
+    switch_case c.args.around _ c.args.self.now c.value-in-Switch.new.self c.cases.new.self c.args.s.now c.in-Switch.place c.in-Switch.e _ _ _ _ _ _ _
+    c.in-Switch.is c.in_a_switch.ensures c.as_slice-in-Switch.ensures c.in_ok-x-in-Switch.ensures.typed c.in_ok-x-in-Switch.ensures.goes c.promoted-ty.ensures c.in_ok-test-in-Switch.ensures c.in_ok-new-in-Switch.ensures c.in_ok-cases-in-Switch.ensures
