@@ -23,3 +23,4 @@ pub mod Answered
 pub mod Watching
 pub mod Marking
 pub mod Picks
+pub mod Gaining

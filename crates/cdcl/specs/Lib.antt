@@ -10,3 +10,4 @@ pub mod Watched
 pub mod Watching
 pub mod Marks
 pub mod Pick
+pub mod Numbers

@@ -2,6 +2,7 @@
 
 ghost use Rattle.std.specs.Prelude.{◌≡◌, ◌≤◌, ◌<◌, ◌^◌, ℕ, true, length, slice_index, vec_len, EachIndex};
 ghost use Rattle.clause_arena.specs.Clause.{is_below};
+ghost use Rattle.cdcl.specs.Numbers.{numbers, shrunk, shrunk_step, gained, grown, after_clause};
 ghost use Rattle.cdcl.specs.Pick.{IsPick, IsBetter};
 
 use crate::chooser::Chooser;
@@ -37,18 +38,22 @@ impl ActivityChooser {
     }
 
     fn shrink(&mut self)
-        ensures { vec_len self.new.activities ≡ vec_len self.old.activities }
+        ensures len { vec_len self.new.activities ≡ vec_len self.old.activities }
+        ensures each { self.new.activities.items ≡ shrunk self.old.activities.items }
+        ensures step { self.new.step ≡ shrunk_step self.old.step }
     {
         for at in 0..self.activities.len() {
             self.activities[at] /= SHRINK;
         }
-        self.step = (self.step / SHRINK).max(1);
+        let step = self.step / SHRINK;
+        self.step = if step < 1 { 1 } else { step };
     }
 
     /// Adds the step to one variable.
     fn bump(&mut self, var: u32)
         requires { var < vec_len self.old.activities }
-        ensures { vec_len self.new.activities ≡ vec_len self.old.activities }
+        ensures len { vec_len self.new.activities ≡ vec_len self.old.activities }
+        ensures gained { numbers self.new.activities.items self.new.step ≡ gained (numbers self.old.activities.items self.old.step) var }
     {
         let sum = self.activities[var as usize] + self.step;
         if sum <= LIMIT {
@@ -61,7 +66,8 @@ impl ActivityChooser {
 
     /// Makes the step greater by a sixteenth of itself and 1.
     fn grow(&mut self)
-        ensures { vec_len self.new.activities ≡ vec_len self.old.activities }
+        ensures len { vec_len self.new.activities ≡ vec_len self.old.activities }
+        ensures grown { numbers self.new.activities.items self.new.step ≡ grown (numbers self.old.activities.items self.old.step) }
     {
         let next = self.step + self.step / 16 + 1;
         if next <= LIMIT {
@@ -83,7 +89,11 @@ impl Chooser for ActivityChooser {
         Ok(())
     }
 
-    fn learned(&mut self, lits: &[Lit]) {
+    fn learned(&mut self, lits: &[Lit])
+        requires { is_below (vec_len self.old.activities) lits.now ≡ true }
+        ensures ready { vec_len self.new.activities ≡ vec_len self.old.activities }
+        ensures heard { numbers self.new.activities.items self.new.step ≡ after_clause (numbers self.old.activities.items self.old.step) lits.now }
+    {
         for l in lits {
             self.bump(l.var);
         }
@@ -95,7 +105,7 @@ impl Chooser for ActivityChooser {
         ensures ready { vec_len self.new.activities ≡ vec_len self.old.activities }
         // The free variable with the greatest number, the lowest at a tie, or 0 where none is free.
         ensures best { IsPick (IsBetter self.old.activities.items) values.now result }
-        ensures numbers { self.new.activities.items ≡ self.old.activities.items }
+        ensures same { self.new.activities.items ≡ self.old.activities.items }
     {
         let mut best: Option<usize> = None;
         for var in 0..values.len() {
