@@ -62,6 +62,7 @@ behind_turn (BreakEnd ∷ tasks) = behind_turn tasks
 behind_turn (BodyEnd f t rows ∷ tasks) = behind_turn tasks
 behind_turn (Rest here go ∷ tasks) = behind_turn tasks
 
+-- the tasks behind the nearest loop or `switch` that a `break` leaves (C99 6.8.6.3)
 abbrev pub behind_break : List Task → List Task
 behind_break [] = []
 behind_break (Do here p a ∷ tasks) = behind_break tasks
@@ -81,6 +82,7 @@ behind_body (BreakEnd ∷ tasks) s c = behind_body tasks s c
 behind_body (BodyEnd f t rows ∷ tasks) s c = At tasks (with_locals s rows) c
 behind_body (Rest here go ∷ tasks) s c = behind_body tasks s c
 
+-- where an outcome of a run leaves the machine
 abbrev pub stopped : Outcome → Configuration
 stopped Ended = Over
 stopped Cut = Over
@@ -101,10 +103,12 @@ abbrev pub given : Answer → (ℤ → Configuration) → Configuration
 given (Value n) go = go n
 given (Fault p) go = IsBroken p
 
+-- the arguments' values, from left to right, or the property that the first of them breaks
 abbrev pub all_given : Setting → JointState → List TExpr → (List ℤ → Configuration) → Configuration
 all_given k s [] go = go []
 all_given k s (e ∷ es) go = given (value_of (rows_in k s) e) (λ n. all_given k s es (λ ns. go (n ∷ ns)))
 
+-- an index's value, where there is one
 abbrev pub index_given : Setting → JointState → Option TExpr → (Option ℤ → Configuration) → Configuration
 index_given k s None go = go None
 index_given k s (Some e) go = given (value_of (rows_in k s) e) (λ n. go (Some n))
@@ -116,10 +120,12 @@ enter_body k f fn (Some body) p args tasks s c =
     onward (Do f body.place body.node ∷ BodyEnd f fn.result s.store.locals ∷ tasks)
     (set_params p.line fn.first args s c)
 
+-- a function begins at its arguments, or gives any value where it has no body
 abbrev pub enter : Setting → (function : ℕ) → Option Function → Place → List ℤ → List Task → JointState → List ℕ → Configuration
 enter k f None p args tasks s c = At tasks s c
 enter k f (Some fn) p args tasks s c = enter_body k f fn fn.body p args tasks s c
 
+-- a call: its arguments, and then its function (C99 6.5.2.2)
 abbrev pub call_step : Setting → TCall → List Task → JointState → List ℕ → Configuration
 call_step k call tasks s c =
     all_given k s call.args (λ args. enter k call.function (slice_get k.pair.program.functions call.function) call.place args tasks s c)
@@ -134,6 +140,7 @@ store_step k target (Called call) tasks s c =
     (Rest k.here (λ s' c'. within_bounds k target i s' c' (λ index.
     store_at target.place.line target.slot index (converted (slot_type k.pair.program target.slot) s'.returned) s' c')) ∷ tasks) s c)
 
+-- a declaration: the object is set, or waits for a call's result
 abbrev pub declare_step : Setting → (line x : ℕ) → TInit → List Task → JointState → List ℕ → Configuration
 declare_step k line x Free tasks s c = onward tasks (declare_effect k no_calls line x Free s c)
 declare_step k line x (Values es) tasks s c = onward tasks (declare_effect k no_calls line x (Values es) s c)
@@ -141,6 +148,7 @@ declare_step k line x (Called call) tasks s c =
     call_step k call
     (Rest k.here (λ s' c'. store_at line (Local x) None (converted (var_type (slice_get k.pair.program.locals x)) s'.returned) s' c') ∷ tasks) s c
 
+-- a `return`: its value is kept, and the body is left (C99 6.8.6.4)
 abbrev pub return_step : Setting → Option TInit → List Task → JointState → List ℕ → Configuration
 return_step k None tasks s c = onward tasks (return_effect k no_calls None s c)
 return_step k (Some Free) tasks s c = onward tasks (return_effect k no_calls (Some Free) s c)
@@ -154,6 +162,7 @@ abbrev pub tasks_of : {m : _} → (here : ℕ) → Row_of-TStmt m → List Task
 tasks_of here end_of-TStmt = []
 tasks_of here (more_of-TStmt p a rest) = Do here p a ∷ tasks_of here rest
 
+-- a statement that may be left out, as tasks
 abbrev pub task_of : (here : ℕ) → Held-SNode-If-2 → List Task
 task_of here None' = []
 task_of here (Some' _ (more_of-TStmt p a _)) = Do here p a ∷ []
@@ -162,6 +171,7 @@ task_of here (Some' _ (more_of-TStmt p a _)) = Do here p a ∷ []
 abbrev pub turn_tasks : (here : ℕ) → Option TExpr → Held-SNode-If-2 → Place → SNode → List Task
 turn_tasks here condition last p body = Do here p body ∷ TurnEnd ∷ (task_of here last ++ Turn here condition last p body ∷ [])
 
+-- a loop's first part, and then its first test; a `do` begins with its body (C99 6.8.5)
 abbrev pub loop_tasks : (here : ℕ) → TLoop → List Task
 loop_tasks here (TLoop' true _ heads condition last _ (more_of-TStmt p body _) prop) =
     tasks_of here heads ++ Turn here condition last p body ∷ BreakEnd ∷ []
@@ -172,11 +182,13 @@ loop_tasks here (TLoop' false _ heads condition last _ (more_of-TStmt p body _) 
 abbrev pub group_tasks : (here : ℕ) → Group → List Task
 group_tasks here (Group' labels _ row) = tasks_of here row
 
+-- the statements of a `switch` from a group on, one group after another
 abbrev pub groups_tasks : {m : _} → (here i : ℕ) → Row_of-Group m → List Task
 groups_tasks here i end_of-Group = []
 groups_tasks here zero (more_of-Group g rest) = group_tasks here g ++ groups_tasks here zero rest
 groups_tasks here (suc i) (more_of-Group g rest) = groups_tasks here i rest
 
+-- the statements that a `switch` runs from the group that it enters, none where it enters none (C99 6.8.4.2)
 abbrev pub entry_tasks : {m : _} → (here : ℕ) → Option ℕ → Row_of-Group m → List Task
 entry_tasks here None groups = []
 entry_tasks here (Some i) groups = groups_tasks here i groups ++ BreakEnd ∷ []
@@ -205,6 +217,7 @@ statement_step k p (NextFrame prop) tasks s c = onward tasks (next_frame k prop 
 abbrev pub setting_in : Pair → Bounds → (here : ℕ) → Setting
 setting_in p b here = record { pair = p; bounds = b; here = here }
 
+-- one step: the first task is carried out
 abbrev pub task_step : Pair → Bounds → Task → List Task → JointState → List ℕ → Configuration
 task_step p b (Do here place a) tasks s c = statement_step (setting_in p b here) place a tasks s c
 task_step p b (Turn here condition last place body) tasks s c =
@@ -228,6 +241,7 @@ abbrev pub steps : Pair → Bounds → (n : ℕ) → Configuration → Configura
 steps p b zero at = at
 steps p b (suc n) at = steps p b n (step p b at)
 
+-- the body of `main`, and its closing brace
 abbrev pub main_tasks : Pair → Option TStmt → List Task
 main_tasks p None = []
 main_tasks p (Some body) = Do p.program.main body.place body.node ∷ []

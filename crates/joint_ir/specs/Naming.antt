@@ -43,6 +43,7 @@ abbrev pub limit_at : (count : ℕ) → Option ℕ → List Limit
 limit_at count None = []
 limit_at count (Some i) = record { prop = record { 0 = i }; count = count } ∷ []
 
+-- the limit that an entry gives: of the first property of that name
 abbrev pub limit_named : List Prop → NamedLimit → List Limit
 limit_named props entry = limit_at entry.count (position_from (is_limited_by entry.name) 0 props)
 

@@ -40,6 +40,7 @@ with_first_state p c go =
       returned = pos 0;
     }) rest)))
 
+-- the body of a function, where it has one
 abbrev pub body_of : Option Function → Option TStmt
 body_of None = None
 body_of (Some fn) = fn.body

@@ -48,14 +48,17 @@ abbrev pub loop_effect : (tests_first : Bool) → (n : ℕ) → (JointState → 
 loop_effect true n test body step p = tested test (turns n test body step p)
 loop_effect false n test body step p = turns n test body step p
 
+-- the label is `case` with this number
 abbrev pub is_case : ℤ → Label → Bool
 is_case n (Case m) = int_eq m n
 is_case n Default = false
 
+-- the label is `default`
 abbrev pub is_default : Label → Bool
 is_default (Case m) = false
 is_default Default = true
 
+-- the group has a label that passes the test
 abbrev pub has_label : (Label → Bool) → Group → Bool
 has_label test (Group' labels _ body) = list_any test labels
 
@@ -123,6 +126,7 @@ abbrev mutual
   pub after_group : Setting → Calls → Group → Onward
   after_group k calls (Group' labels _ row) s c = after_row k calls row s c
 
+-- the property says that a function has no more activations than its limit
 abbrev pub is_recursion : PropKind → Bool
 is_recursion kind.Assertion = false
 is_recursion kind.Overflow = false
@@ -138,6 +142,7 @@ abbrev pub prop_or_none : Option ℕ → PropId
 prop_or_none None = record { 0 = 0 }
 prop_or_none (Some i) = record { 0 = i }
 
+-- the `recursion` property of a function's name
 abbrev pub recursion_of : List Prop → List ℕ → PropId
 recursion_of props name = prop_or_none (position_from (λ p. if is_recursion p.kind then bytes_eq p.function name else false) 0 props)
 
@@ -185,6 +190,7 @@ entered_body pair b may_enter inner f fn None p args s c = any_result fn.result 
 entered_body pair b true inner f fn (Some body) p args s c = body_effect pair b inner f fn body p args s c
 entered_body pair b false inner f fn (Some body) p args s c = broken (recursion_prop pair.program fn) c
 
+-- a call of a function by its number; where there is none nothing happens
 abbrev pub entered_function : Pair → Bounds → (may_enter : Function → Bool) → (inner : Calls) → (function : ℕ) → Option Function → Place → List ℤ → Onward
 entered_function pair b may_enter inner f None p args s c = Goes Next s nothing c
 entered_function pair b may_enter inner f (Some fn) p args s c = entered_body pair b (may_enter fn) inner f fn fn.body p args s c
@@ -193,6 +199,7 @@ entered_function pair b may_enter inner f (Some fn) p args s c = entered_body pa
 abbrev pub is_below_limit : Pair → Bounds → (standing : List ℕ) → (function : ℕ) → Function → Bool
 is_below_limit pair b standing f fn = nat_lt (count_by (λ g. eqb f g) standing) (limit_of b (recursion_prop pair.program fn))
 
+-- no function can be called
 abbrev pub no_calls : Calls
 no_calls p f args s c = TooFew
 

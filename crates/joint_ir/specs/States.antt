@@ -20,6 +20,7 @@ pub record View : Type 0 where
   pub inputs : List ℕ
   pub wires : List ℕ
 
+-- a moment of a run: C's objects, the module's words, the clock edges taken, and what was returned last
 pub record JointState : Type 0 where
   pub store : Store
   pub view : View
@@ -33,6 +34,7 @@ abbrev pub copies : {A : Type 0} → ℕ → A → List A
 copies zero x = []
 copies (suc n) x = x ∷ copies n x
 
+-- the elements of the object at a place
 abbrev pub row_at : List (List ℤ) → ℕ → List ℤ
 row_at rows i = slice_index_or rows i []
 

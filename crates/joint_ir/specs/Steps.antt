@@ -41,6 +41,7 @@ abbrev pub limit_or : Option Limit → ℕ → ℕ
 limit_or None n = n
 limit_or (Some limit) n = limit.count
 
+-- the limit of a loop or a function: its own, or else that for all; of two of its own the first
 abbrev pub limit_of : Bounds → PropId → ℕ
 limit_of b p = limit_or (find (λ limit. eqb limit.prop.0 p.0) b.limits) b.unwind
 
@@ -49,14 +50,17 @@ abbrev pub var_type : Option Var → IntType
 var_type None = int
 var_type (Some x) = x.ty
 
+-- a type, and `int` where there is none
 abbrev pub type_or_int : Option IntType → IntType
 type_or_int None = int
 type_or_int (Some t) = t
 
+-- the type of a member, and `int` where it is a struct
 abbrev pub member_type : Option AMember → IntType
 member_type None = int
 member_type (Some m) = type_or_int m.ty
 
+-- the type of an object's elements; `bound` is an `unsigned int`
 abbrev pub slot_type : CProgram → Slot → IntType
 slot_type p (Global i) = var_type (slice_get p.globals i)
 slot_type p (Local i) = var_type (slice_get p.locals i)
@@ -67,12 +71,15 @@ slot_type p BoundValue = record { bits = 32; signed = false; truth = false }
 abbrev pub rows_in : Setting → JointState → Rows
 rows_in k s = rows_of k.bounds.frames s.store
 
+-- the same moment with other objects
 abbrev pub with_store : JointState → Store → JointState
 with_store s store = record { store = store; view = s.view; edges = s.edges; returned = s.returned }
 
+-- the same moment with other automatic objects
 abbrev pub with_locals : JointState → List (List ℤ) → JointState
 with_locals s rows = with_store s (record { globals = s.store.globals; locals = rows; members = s.store.members })
 
+-- the same moment with this value returned last
 abbrev pub returning : JointState → ℤ → JointState
 returning s n = record { store = s.store; view = s.view; edges = s.edges; returned = n }
 
@@ -94,6 +101,7 @@ Calls = Place → (function : ℕ) → (args : List ℤ) → Onward
 abbrev pub call_effect : Setting → Calls → TCall → Onward
 call_effect k calls call s c = with_values (rows_in k s) call.args c (λ args. calls call.place call.function args s c)
 
+-- the value of the one expression of an initializer
 abbrev pub first_value : Rows → List TExpr → Answer
 first_value rows [] = Value (pos 0)
 first_value rows (e ∷ es) = value_of rows e
@@ -109,10 +117,12 @@ abbrev pub with_index : Setting → Option TExpr → JointState → List ℕ →
 with_index k None s c go = go None
 with_index k (Some e) s c go = with_value (value_of (rows_in k s) e) c (λ i. go (Some i))
 
+-- an index names an element: it is from 0 to the length less 1
 abbrev pub is_within : (length : ℕ) → ℤ → Bool
 is_within n (pos i) = nat_lt i n
 is_within n (negsuc i) = false
 
+-- an index that is within, as a place
 abbrev pub low_part : ℤ → ℕ
 low_part (pos i) = i
 low_part (negsuc i) = 0
@@ -130,6 +140,7 @@ store_effect k calls target init s c =
     with_init k calls (slot_type k.pair.program target.slot) init s c (λ n s' rest.
     within_bounds k target i s' rest (λ index. store_at target.place.line target.slot index n s' rest)))
 
+-- the right operand of an update; `++` and `--` have 1 (C99 6.5.2.4)
 abbrev pub right_value : Rows → Option TExpr → Answer
 right_value rows None = Value (pos 1)
 right_value rows (Some e) = value_of rows e
@@ -160,11 +171,13 @@ set_elements k line x (suc n) i (e ∷ es) s c =
     with_value (value_of (rows_in k s) e) c (λ v.
     then_do (store_at line (Local x) (Some i) v s c) (set_elements k line x n (i + 1) es))
 
+-- an array is declared: its elements are set one after another, or take any values
 abbrev pub declare_array : Setting → Calls → (line x : ℕ) → IntType → (length : ℕ) → TInit → Onward
 declare_array k calls line x t n Free s c = free_elements line x t n 0 s c
 declare_array k calls line x t n (Values es) s c = set_elements k line x n 0 es s c
 declare_array k calls line x t n (Called call) s c = Goes Next s nothing c
 
+-- an object is declared: it is set, or takes any value
 abbrev pub declare_object : Setting → Calls → (line x : ℕ) → IntType → (length : ℕ) → TInit → Onward
 declare_object k calls line x t zero init s c = with_init k calls t init s c (store_at line (Local x) None)
 declare_object k calls line x t (suc n) init s c = declare_array k calls line x t (suc n) init s c
@@ -174,6 +187,7 @@ abbrev pub declare_var : Setting → Calls → (line x : ℕ) → Option Var →
 declare_var k calls line x None init s c = Goes Next s nothing c
 declare_var k calls line x (Some var) init s c = declare_object k calls line x var.ty var.length init s c
 
+-- what the declaration of a local does
 abbrev pub declare_effect : Setting → Calls → (line x : ℕ) → TInit → Onward
 declare_effect k calls line x init = declare_var k calls line x (slice_get k.pair.program.locals x) init
 
@@ -182,6 +196,7 @@ abbrev pub result_of : Option Function → Option IntType
 result_of None = None
 result_of (Some f) = f.result
 
+-- what a `return` does (C99 6.8.6.4)
 abbrev pub return_effect : Setting → Calls → Option TInit → Onward
 return_effect k calls None s c = Goes Returning (returning s (pos 0)) nothing c
 return_effect k calls (Some init) s c =

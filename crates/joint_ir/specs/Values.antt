@@ -22,6 +22,7 @@ pub data Answer : Type 0 where
   Value : (n : ℤ) → Answer
   Fault : (p : PropId) → Answer
 
+-- with a value go on; a check that breaks ends the evaluation
 abbrev pub and_then : Answer → (ℤ → Answer) → Answer
 and_then (Value n) go = go n
 and_then (Fault p) go = Fault p
@@ -32,10 +33,12 @@ checked None test a = a
 checked (Some p) true a = a
 checked (Some p) false a = Fault p
 
+-- the result of a comparison: 1 or 0, of type `int` (C99 6.5.8, 6.5.9)
 abbrev pub bit_of : Bool → ℤ
 bit_of true = pos 1
 bit_of false = pos 0
 
+-- the number compares equal to 0
 abbrev pub is_zero : ℤ → Bool
 is_zero (pos zero) = true
 is_zero (pos (suc n)) = false
@@ -70,6 +73,7 @@ may_shift_left t x y =
     if is_amount t y then (if t.signed then (if int_lt x (pos 0) then false else in_range t (shifted_left x y)) else true)
     else false
 
+-- a unary operator on its promoted operand (C99 6.5.3.3)
 abbrev pub unary_value : UnaryOp → IntType → Option PropId → ℤ → Answer
 unary_value Plus t p x = Value x
 unary_value Minus t p x = result_in t p (neg_ℤ x)

@@ -29,11 +29,13 @@ same_role Register Register = true
 same_role Wire Wire = true
 same_role _ _ = false
 
+-- the widths of all words of the signals of a role, in flat order and by index
 abbrev pub widths_of : Role → List Signal → List ℕ
 widths_of role [] = []
 widths_of role (s ∷ signals) =
     if same_role role s.role then copies (element_count s.words) s.bits ++ widths_of role signals else widths_of role signals
 
+-- the widths of unknown words, in the order in which they are drawn
 abbrev pub site_widths : List Site → List ℕ
 site_widths sites = map (λ s. s.bits) sites
 
@@ -68,6 +70,7 @@ signal_words (s ∷ signals) registers inputs wires =
       | Register ↦ take (element_count s.words) registers ∷ signal_words signals (drop (element_count s.words) registers) inputs wires
     ]
 
+-- the words of each signal, in flat order; the clock reads 0
 abbrev pub view_words : FlatModule → View → List (List ℕ)
 view_words m v = signal_words m.signals v.registers v.inputs v.wires
 
@@ -75,6 +78,7 @@ view_words m v = signal_words m.signals v.registers v.inputs v.wires
 abbrev pub mirrored_signal : List Link → (member : ℕ) → Option ℕ
 mirrored_signal links member = option_map (λ link. link.signal) (find (λ link. eqb link.member member) links)
 
+-- the member that is linked to a signal
 abbrev pub mirroring_member : List Link → (signal : ℕ) → Option ℕ
 mirroring_member links signal = option_map (λ link. link.member) (find (λ link. eqb link.signal signal) links)
 
@@ -87,6 +91,7 @@ abbrev pub mirror_row : IntType → Option Signal → List ℕ → List ℤ
 mirror_row ty None words = []
 mirror_row ty (Some s) words = map (λ n. converted ty (word_number s n)) words
 
+-- what a member holds: the numbers of its signal, converted to its type; a struct holds nothing
 abbrev pub member_row : List Signal → List (List ℕ) → Option IntType → Option ℕ → List ℤ
 member_row signals words None signal = []
 member_row signals words (Some ty) None = []
@@ -98,10 +103,12 @@ filled_from links signals words k [] = []
 filled_from links signals words k (m ∷ members) =
     member_row signals words m.ty (mirrored_signal links k) ∷ filled_from links signals words (k + 1) members
 
+-- the members of the mirror, none where there is no mirror
 abbrev pub members_of : Option MirrorDecl → List Member
 members_of None = []
 members_of (Some mirror) = mirror.members
 
+-- what the whole mirror holds when it is filled from a view
 abbrev pub filled : Pair → View → List (List ℤ)
 filled p v = filled_from p.binding.links p.module.signals (view_words p.module v) 0 (members_of p.program.mirror)
 
@@ -119,6 +126,7 @@ driven_from links members k (s ∷ signals) inputs =
       | _ ↦ driven_from links members (k + 1) signals inputs
     ]
 
+-- the inputs after `set_inputs()`: those with a member take its low bits, the others stay
 abbrev pub driven : Pair → List (List ℤ) → List ℕ → List ℕ
 driven p members inputs = driven_from p.binding.links members 0 p.module.signals inputs
 
@@ -136,6 +144,7 @@ shown_from k (s ∷ signals) words =
       | _ ↦ shown_words k 0 (slice_index_or words 0 []) ++ shown_from (k + 1) signals (drop 1 words)
     ]
 
+-- all words of all signals but the clock
 abbrev pub shown : FlatModule → View → List Shown
 shown m v = shown_from 0 m.signals (view_words m v)
 

@@ -40,10 +40,12 @@ abbrev pub var_length : Option Var → ℕ
 var_length None = 0
 var_length (Some x) = x.length
 
+-- the number of elements of a member that is an array, and 0 for another
 abbrev pub member_length : Option AMember → ℕ
 member_length None = 0
 member_length (Some m) = m.length
 
+-- the number of elements of an object that is an array, and 0 for another
 abbrev pub slot_length : CProgram → Slot → ℕ
 slot_length p (Global i) = var_length (slice_get p.globals i)
 slot_length p (Local i) = var_length (slice_get p.locals i)
@@ -57,6 +59,7 @@ unary_weight Minus t v = 10 * t.bits + 32
 unary_weight Flip t v = 0
 unary_weight Not t v = v + 8
 
+-- a product of a type
 abbrev pub product_weight : IntType → ℕ
 product_weight t = if t.signed then 44 * (t.bits * t.bits) + 8 * t.bits + 32 else 11 * (t.bits * t.bits) + 32
 
@@ -83,6 +86,7 @@ binary_weight Ge t u v = 10 * u
 abbrev pub read_weight : (n v w : ℕ) → ℕ
 read_weight n v w = n * (v + 2 * w) + 20 * v + 32
 
+-- an element stored, besides the store: n elements of w bits, and an index of v bits
 abbrev pub write_weight : (n v w : ℕ) → ℕ
 write_weight n v w = n * (v + 3 * w + 1) + 20 * v + 32
 
@@ -104,16 +108,20 @@ node_weight p t (Choose' _ (more_of-TExpr u q c _) _ (more_of-TExpr v r a _) _ (
     node_weight p u c + node_weight p v a + node_weight p w b + (3 * t.bits + u.bits + 8) + 4
 node_weight p t (Convert' _ (more_of-TExpr u q a _)) = node_weight p u a + convert_weight t u.bits + 4
 
+-- an expression
 abbrev pub expr_weight : CProgram → TExpr → ℕ
 expr_weight p e = node_weight p e.ty e.node
 
+-- expressions, together
 abbrev pub exprs_weight : CProgram → List TExpr → ℕ
 exprs_weight p es = sum_by (expr_weight p) es
 
+-- an expression that may be left out
 abbrev pub option_weight : CProgram → Option TExpr → ℕ
 option_weight p None = 0
 option_weight p (Some e) = expr_weight p e
 
+-- the width of an expression that may be left out, 0 where it is
 abbrev pub option_bits : Option TExpr → ℕ
 option_bits None = 0
 option_bits (Some e) = e.ty.bits
@@ -127,9 +135,11 @@ condition_weight p (Some e) = expr_weight p e + e.ty.bits
 abbrev pub CallWeights : Type 0
 CallWeights = (function : ℕ) → ℕ
 
+-- a call: its arguments and its function
 abbrev pub call_weight : CProgram → CallWeights → TCall → ℕ
 call_weight p calls call = exprs_weight p call.args + calls call.function
 
+-- what an object is set to
 abbrev pub init_weight : CProgram → CallWeights → TInit → ℕ
 init_weight p calls Free = 0
 init_weight p calls (Values es) = exprs_weight p es
@@ -144,6 +154,7 @@ abbrev pub index_weight : CProgram → (n w : ℕ) → Option TExpr → ℕ
 index_weight p n w None = 0
 index_weight p n w (Some e) = expr_weight p e + write_weight n e.ty.bits w
 
+-- a store to a target, with its index
 abbrev pub target_weight : CProgram → TTarget → ℕ
 target_weight p target =
     let w = (slot_type p target.slot).bits in store_weight w + index_weight p (slot_length p target.slot) w target.index
@@ -153,6 +164,7 @@ abbrev pub old_weight : (n w : ℕ) → Option TExpr → ℕ
 old_weight n w None = 0
 old_weight n w (Some e) = read_weight n e.ty.bits w + 4
 
+-- `op=`, `++` and `--`: the store, the old value and the operator
 abbrev pub update_weight : CProgram → TTarget → TUpdate → ℕ
 update_weight p target u =
     target_weight p target + old_weight (slot_length p target.slot) (slot_type p target.slot).bits target.index
@@ -163,13 +175,16 @@ abbrev pub elements_weight : Option Var → ℕ
 elements_weight None = 0
 elements_weight (Some x) = element_count x.length * (4 * x.ty.bits + 16)
 
+-- a declaration: its elements and what they are set to
 abbrev pub declare_weight : CProgram → CallWeights → Option Var → TInit → ℕ
 declare_weight p calls var init = elements_weight var + init_weight p calls init
 
+-- the width of a type, 0 where there is none
 abbrev pub bits_or_zero : Option IntType → ℕ
 bits_or_zero None = 0
 bits_or_zero (Some t) = t.bits
 
+-- a `return`: a store of the function's result
 abbrev pub return_weight : Setting → CallWeights → Option TInit → ℕ
 return_weight k calls None = 16
 return_weight k calls (Some init) =
@@ -179,24 +194,31 @@ return_weight k calls (Some init) =
 abbrev pub sum_of : List ℕ → ℕ
 sum_of ns = sum_by (λ n. n) ns
 
+-- the bits of a signal of a role, all words of a memory
 abbrev pub role_bits : Role → Signal → ℕ
 role_bits role s = if same_role role s.role then element_count s.words * s.bits else 0
 
+-- the bits of the top's inputs but the clock
 abbrev pub input_bits : Pair → ℕ
 input_bits p = sum_by (role_bits Input) p.module.signals
 
+-- the bits of all registers and memories
 abbrev pub register_bits : Pair → ℕ
 register_bits p = sum_by (role_bits Register) p.module.signals
 
+-- the bits of a member, all elements of an array; a struct has none of its own
 abbrev pub member_bits : AMember → ℕ
 member_bits m = element_count m.length * bits_or_zero m.ty
 
+-- the bits of all members of the mirror
 abbrev pub mirror_bits : Pair → ℕ
 mirror_bits p = sum_by member_bits (members_of p.program.mirror)
 
+-- `set_inputs()`: a settling, the inputs and the mirror
 abbrev pub drive_weight : Pair → ℕ
 drive_weight p = p.module.settle_weight + 3 * input_bits p + 3 * mirror_bits p + 64
 
+-- `next_timeframe()`: an edge, a settling, the registers, the inputs and the mirror
 abbrev pub frame_weight : Pair → ℕ
 frame_weight p =
     p.module.edge_weight + p.module.settle_weight + 3 * register_bits p + 4 * input_bits p + 3 * mirror_bits p + 256
@@ -245,6 +267,7 @@ abbrev mutual
   pub group_weight : Setting → CallWeights → (w : ℕ) → Group → ℕ
   group_weight k calls w (Group' labels _ row) = length labels * (4 * w + 16) + row_weight k calls row
 
+-- the width of an object, 0 where there is none
 abbrev pub var_bits : Option Var → ℕ
 var_bits None = 0
 var_bits (Some x) = x.ty.bits
@@ -254,6 +277,7 @@ abbrev pub params_weight : List Var → (first n : ℕ) → ℕ
 params_weight locals first zero = 0
 params_weight locals first (suc n) = store_weight (var_bits (slice_get locals first)) + params_weight locals (suc first) n
 
+-- a function with a body: its entry, its parameters, its result and its body
 abbrev pub body_weight : Pair → Bounds → (inner : CallWeights) → (function : ℕ) → Function → TStmt → ℕ
 body_weight p b inner f fn body =
     32 + params_weight p.program.locals fn.first fn.params + 4 * bits_or_zero fn.result
@@ -265,6 +289,7 @@ entered_weight p b may_enter inner f fn None = bits_or_zero fn.result + 16
 entered_weight p b true inner f fn (Some body) = body_weight p b inner f fn body
 entered_weight p b false inner f fn (Some body) = 16
 
+-- a function that is called, by its number
 abbrev pub function_weight : Pair → Bounds → (may_enter : Function → Bool) → (inner : CallWeights) → (function : ℕ) → Option Function → ℕ
 function_weight p b may_enter inner f None = 0
 function_weight p b may_enter inner f (Some fn) = entered_weight p b (may_enter fn) inner f fn fn.body
@@ -275,6 +300,7 @@ calls_weight p b zero standing f = function_weight p b (λ fn. false) (λ g. 0) 
 calls_weight p b (suc left) standing f =
     function_weight p b (is_below_limit p b standing f) (calls_weight p b left (standing ++ f ∷ [])) f (slice_get p.program.functions f)
 
+-- the body of `main`, one activation of which stands
 abbrev pub main_weight : Pair → Bounds → Option TStmt → ℕ
 main_weight p b None = 0
 main_weight p b (Some body) =

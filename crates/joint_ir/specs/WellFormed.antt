@@ -76,12 +76,15 @@ pub record Scope : Type 0 where
   pub in_loop : Bool
   pub may_break : Bool
 
+-- the scope with these locals declared
 abbrev pub with_scope_locals : Scope → List ℕ → Scope
 with_scope_locals c xs = record { program = c.program; here = c.here; locals = xs; in_loop = c.in_loop; may_break = c.may_break }
 
+-- the scope inside a loop, where `break` and `continue` may stand
 abbrev pub in_a_loop : Scope → Scope
 in_a_loop c = record { program = c.program; here = c.here; locals = c.locals; in_loop = true; may_break = true }
 
+-- the scope inside a `switch`, where `break` may stand
 abbrev pub in_a_switch : Scope → Scope
 in_a_switch c = record { program = c.program; here = c.here; locals = c.locals; in_loop = c.in_loop; may_break = true }
 
@@ -92,6 +95,7 @@ IsVisible c (Local i) = (i < length c.program.locals) × Contains c.locals i
 IsVisible c (Member i) = (m : AMember) × (slice_get (members_of c.program.mirror) i ≡ Some m) × IsSome m.ty
 IsVisible c BoundValue = Unit {0}
 
+-- the object has elements
 abbrev pub is_array : CProgram → Slot → Bool
 is_array p slot = nat_lt 0 (slot_length p slot)
 
@@ -105,21 +109,26 @@ pub record IsPromoted (t : IntType) : Type 0 where
   pub type : IsType t
   pub wide : 32 ≤ t.bits
 
+-- a unary operator: the type of its result, and its property exactly where it has one
 abbrev pub FitsUnary : CProgram → UnaryOp → (t u : IntType) → Option PropId → Type 0
 FitsUnary p Plus t u prop = IsPromoted t × (u ≡ t) × (prop ≡ None)
 FitsUnary p Minus t u prop = IsPromoted t × (u ≡ t) × HasProp p kind.Overflow t.signed prop
 FitsUnary p Flip t u prop = IsPromoted t × (u ≡ t) × (prop ≡ None)
 FitsUnary p Not t u prop = (t ≡ int) × (prop ≡ None)
 
+-- `+ - * / %`: all of one type; a division checks its divisor, and a signed operation its result
 abbrev pub FitsArithmetic : CProgram → (divides : Bool) → (t u v : IntType) → (division other : Option PropId) → Type 0
 FitsArithmetic p divides t u v d prop = IsPromoted t × (u ≡ t) × (v ≡ t) × HasProp p kind.Division divides d × HasProp p kind.Overflow t.signed prop
 
+-- shifts: the type is that of the left operand, and the amount is checked
 abbrev pub FitsShift : CProgram → (t u v : IntType) → (division other : Option PropId) → Type 0
 FitsShift p t u v d prop = IsPromoted t × IsPromoted v × (u ≡ t) × (d ≡ None) × HasProp p kind.Shift true prop
 
+-- `& | ^`: all of one type, and no check
 abbrev pub FitsBits : (t u v : IntType) → (division other : Option PropId) → Type 0
 FitsBits t u v d prop = IsPromoted t × (u ≡ t) × (v ≡ t) × (d ≡ None) × (prop ≡ None)
 
+-- comparisons: operands of one type, the result an `int`, and no check
 abbrev pub FitsComparison : (t u v : IntType) → (division other : Option PropId) → Type 0
 FitsComparison t u v d prop = (t ≡ int) × IsPromoted u × (v ≡ u) × (d ≡ None) × (prop ≡ None)
 
@@ -156,6 +165,7 @@ FitsNode c t (Choose' _ (more_of-TExpr u q x _) _ (more_of-TExpr v r a _) _ (mor
     IsPromoted t × (v ≡ t) × (w ≡ t) × FitsNode c u x × FitsNode c v a × FitsNode c w b
 FitsNode c t (Convert' _ (more_of-TExpr u q a _)) = IsType t × FitsNode c u a
 
+-- an expression has its shape, and its parts have theirs
 abbrev pub FitsExpr : Scope → TExpr → Type 0
 FitsExpr c e = FitsNode c e.ty e.node
 
@@ -163,6 +173,7 @@ FitsExpr c e = FitsNode c e.ty e.node
 abbrev pub FitsAs : Scope → IntType → TExpr → Type 0
 FitsAs c t e = (e.ty ≡ t) × FitsExpr c e
 
+-- an expression that may be left out
 abbrev pub FitsOption : Scope → Option TExpr → Type 0
 FitsOption c None = Unit {0}
 FitsOption c (Some e) = FitsExpr c e
@@ -176,9 +187,11 @@ FitsArgs c x (e ∷ es) = FitsAs c (slot_type c.program (Local x)) e × FitsArgs
 abbrev pub FitsCallee : Scope → List TExpr → Function → Type 0
 FitsCallee c args fn = (length args ≡ fn.params) × FitsArgs c fn.first args × (IsSome fn.body ⊎ IsSome fn.result)
 
+-- a call: a function that there is, with an argument for each parameter, of its type
 abbrev pub FitsCall : Scope → TCall → Type 0
 FitsCall c call = (fn : Function) × (slice_get c.program.functions call.function ≡ Some fn) × FitsCallee c call.args fn
 
+-- a call whose result is used: its function has one
 abbrev pub FitsResult : Scope → TCall → Type 0
 FitsResult c call = FitsCall c call × ((fn : Function) × (slice_get c.program.functions call.function ≡ Some fn) × IsSome fn.result)
 
@@ -193,16 +206,19 @@ abbrev pub FitsIndex : Scope → Option TExpr → Option PropId → Type 0
 FitsIndex c None prop = prop ≡ None
 FitsIndex c (Some e) prop = FitsExpr c e × HasProp c.program kind.Bounds true prop
 
+-- there is one
 abbrev pub is_some : {A : Type 0} → Option A → Bool
 is_some None = false
 is_some (Some x) = true
 
+-- the object is `bound`
 abbrev pub is_bound : Slot → Bool
 is_bound (Global i) = false
 is_bound (Local i) = false
 is_bound (Member i) = false
 is_bound BoundValue = true
 
+-- a target: an object other than `bound`, with an index exactly where it is an array, which is checked
 pub record FitsTarget (c : Scope) (target : TTarget) : Type 0 where
   pub object : IsObject c target.slot (is_some target.index)
   pub stored : is_bound target.slot ≡ false
@@ -243,6 +259,7 @@ abbrev pub updates : BinaryOp → (right : Bool) → Bool
 updates op true = is_compound op
 updates op false = is_step op
 
+-- `op=`, `++` and `--`: an operator that can stand there, with its properties
 pub record FitsUpdate (c : Scope) (u : TUpdate) : Type 0 where
   pub updates : IsTrue (updates u.op (is_some u.right))
   pub operator : FitsBinary c.program u.op u.ty u.ty (right_type u.ty u.right) u.division u.other
@@ -254,10 +271,12 @@ FitsElements c t n Free = Unit {0}
 FitsElements c t n (Values es) = (length es ≤ n) × All (λ e. FitsAs c t e) es
 FitsElements c t n (Called call) = ⊥
 
+-- what an object may be set to: nothing, its elements, or a call's result
 abbrev pub FitsObject : Scope → IntType → (length : ℕ) → TInit → Type 0
 FitsObject c t zero init = FitsInit c true t init
 FitsObject c t (suc n) init = FitsElements c t (suc n) init
 
+-- a declaration of a local that there is, and what it is set to
 abbrev pub FitsDeclare : Scope → ℕ → TInit → Type 0
 FitsDeclare c x init = (v : Var) × (slice_get c.program.locals x ≡ Some v) × FitsObject c v.ty v.length init
 
@@ -276,6 +295,7 @@ is_simple SetInputs = true
 is_simple (NextFrame prop) = true
 is_simple _ = false
 
+-- the statement declares a local
 abbrev pub is_declare : SNode → Bool
 is_declare (Declare x init) = true
 is_declare _ = false
@@ -285,10 +305,12 @@ abbrev pub declared_behind : SNode → List ℕ → List ℕ
 declared_behind (Declare x init) xs = x ∷ xs
 declared_behind _ xs = xs
 
+-- the locals that are declared behind statements
 abbrev pub behind_row : {m : _} → Row_of-TStmt m → List ℕ → List ℕ
 behind_row end_of-TStmt xs = xs
 behind_row (more_of-TStmt p a rest) xs = behind_row rest (declared_behind a xs)
 
+-- all statements are declarations
 abbrev pub all_declare : {m : _} → Row_of-TStmt m → Bool
 all_declare end_of-TStmt = true
 all_declare (more_of-TStmt p a rest) = is_declare a && all_declare rest
@@ -299,10 +321,12 @@ is_first_part end_of-TStmt = true
 is_first_part (more_of-TStmt p a end_of-TStmt) = if is_declare a then true else is_simple a
 is_first_part (more_of-TStmt p a (more_of-TStmt q b rest)) = is_declare a && is_declare b && all_declare rest
 
+-- there is no statement
 abbrev pub is_no_row : {m : _} → Row_of-TStmt m → Bool
 is_no_row end_of-TStmt = true
 is_no_row (more_of-TStmt p a rest) = false
 
+-- the statement is left out
 abbrev pub is_left_out : Held-SNode-If-2 → Bool
 is_left_out None' = true
 is_left_out (Some' _ row) = false
@@ -317,6 +341,7 @@ abbrev pub FitsLabel : IntType → Label → Type 0
 FitsLabel t (Case n) = InRange t n
 FitsLabel t Default = Unit {0}
 
+-- both labels are `default`, or `case` with one number
 abbrev pub same_label : Label → Label → Bool
 same_label (Case m) (Case n) = int_eq m n
 same_label Default Default = true
@@ -326,10 +351,12 @@ same_label _ _ = false
 abbrev pub group_labels : Group → List Label
 group_labels (Group' labels _ row) = labels
 
+-- the labels of all groups
 abbrev pub all_labels : {m : _} → Row_of-Group m → List Label
 all_labels end_of-Group = []
 all_labels (more_of-Group g rest) = group_labels g ++ all_labels rest
 
+-- no label stands twice (C99 6.8.4.2)
 abbrev pub AreDistinct : List Label → Type 0
 AreDistinct labels = All (λ a. count_by (same_label a) labels ≡ 1) labels
 
@@ -424,6 +451,7 @@ abbrev pub AreTogether : Function → TStmt → Type 0
 AreTogether fn body =
     let own = declared_in body.node in own ≡ places_from (fn.first + fn.params) (length own)
 
+-- the locals that a function's body declares, its parameters first
 abbrev pub declared_by_body : Function → Option TStmt → List ℕ
 declared_by_body fn None = []
 declared_by_body fn (Some body) = places_from fn.first fn.params ++ declared_in body.node
@@ -437,6 +465,7 @@ declared_by (fn ∷ fns) = declared_by_body fn fn.body ++ declared_by fns
 abbrev pub ArePlain : CProgram → (first n : ℕ) → Type 0
 ArePlain p first n = All (λ x. slot_length p (Local x) ≡ 0) (places_from first n)
 
+-- the scope in which a function's body begins: its parameters are declared
 abbrev pub scope_of : CProgram → (function : ℕ) → Function → Scope
 scope_of p f fn = record { program = p; here = f; locals = places_from fn.first fn.params; in_loop = false; may_break = false }
 
@@ -448,24 +477,29 @@ recursions p name = count_by (λ x. is_recursion x.kind && bytes_eq x.function n
 abbrev pub bodies : CProgram → List ℕ → ℕ
 bodies p name = count_by (λ fn. is_some fn.body && bytes_eq fn.name name) p.functions
 
+-- a body: its statements fit, its locals stand together in text order, and it has a `recursion` property and its name alone
 abbrev pub FitsBody : CProgram → ℕ → Function → Option TStmt → Type 0
 FitsBody p f fn None = (fn.first ≡ 0) × (fn.params ≡ 0)
 FitsBody p f fn (Some body) =
     (fn.first + fn.params ≤ length p.locals) × ArePlain p fn.first fn.params × FitsStmt (scope_of p f fn) body.node
     × AreTogether fn body × (recursions p fn.name ≡ 1) × (bodies p fn.name ≡ 1)
 
+-- a function: the type of its result, and its body
 pub record FitsFunction (p : CProgram) (f : ℕ) (fn : Function) : Type 0 where
   pub result : IfSome fn.result IsType
   pub body : FitsBody p f fn fn.body
 
+-- an object: its type, its length, and first values within both
 pub record FitsVar (x : Var) : Type 0 where
   pub type : IsType x.ty
   pub firsts : All (InRange x.ty) x.firsts
   pub few : length x.firsts ≤ element_count x.length
 
+-- a member of the mirror: a type or a struct
 pub record FitsMember (m : AMember) : Type 0 where
   pub type : IfSome m.ty IsType
 
+-- a typed program: each of its parts fits, and `main` has a body and no parameter
 pub record FitsProgram (p : CProgram) : Type 0 where
   pub functions : (f : ℕ) (fn : Function) → slice_get p.functions f ≡ Some fn → FitsFunction p f fn
   pub globals : All FitsVar p.globals
@@ -482,12 +516,14 @@ pub record FitsProgram (p : CProgram) : Type 0 where
   pub few_props : length p.props < 2 ^ 32
   pub few_functions : length p.functions < 2 ^ 32
 
+-- a signal has 1 to 64 bits, and only a register has words
 pub record FitsSignal (s : Signal) : Type 0 where
   pub some : 1 ≤ s.bits
   pub few : s.bits ≤ 64
   pub memory : (0 < s.words) → s.role ≡ Register
   pub clock : s.role ≡ Clock → s.bits ≡ 1
 
+-- an unknown word has 1 to 64 bits
 pub record FitsSite (s : Site) : Type 0 where
   pub some : 1 ≤ s.bits
   pub few : s.bits ≤ 64
@@ -509,6 +545,7 @@ pub record IsWithin (g : Graph) (sites : List ℕ) (weight : ℕ) : Type 0 where
   pub gates : term_gates g + 8 * sum_of sites ≤ 8 * weight
   pub terms : count_by is_no_var g.terms + 8 * sum_of sites ≤ 8 * weight
 
+-- a module: its signals, its terms over its variables, its first values, and its weights
 pub record FitsModule (m : FlatModule) : Type 0 where
   pub signals : All FitsSignal m.signals
   pub settle_sites : All FitsSite m.settle_sites
@@ -526,6 +563,7 @@ pub record FitsModule (m : FlatModule) : Type 0 where
 abbrev pub FitsMirror : AMember → Signal → Type 0
 FitsMirror m s = (m.length ≡ s.words) × IfSome m.ty (λ t. s.bits ≤ t.bits)
 
+-- a link: a member and a signal of one shape, the member no narrower
 abbrev pub FitsLink : Pair → Link → Type 0
 FitsLink p link =
     (m : AMember) × (s : Signal) × (slice_get (members_of p.program.mirror) link.member ≡ Some m) × (slice_get p.module.signals link.signal ≡ Some s)
@@ -535,12 +573,14 @@ FitsLink p link =
 abbrev pub links_of : Pair → (member : ℕ) → ℕ
 links_of p i = count_by (λ link. eqb link.member i) p.binding.links
 
+-- each member that is no struct has one link, and no signal has two
 pub record FitsBinding (p : Pair) : Type 0 where
   pub links : All (FitsLink p) p.binding.links
   -- each member that is no struct has one link, and no two links name one signal
   pub members : (i : ℕ) (m : AMember) → slice_get (members_of p.program.mirror) i ≡ Some m → IsSome m.ty → links_of p i ≡ 1
   pub signals : All (λ link. count_by (λ other. eqb other.signal link.signal) p.binding.links ≡ 1) p.binding.links
 
+-- a pair is well-formed: its program, its module and what binds them
 pub record IsWellFormed (p : Pair) : Type 0 where
   pub program : FitsProgram p.program
   pub module_ : FitsModule p.module
