@@ -1,0 +1,3 @@
+mod Tokens
+mod Numerals
+pub mod Entries
