@@ -1,3 +1,4 @@
 mod Tokens
 mod Numerals
 pub mod Entries
+mod Worked
