@@ -27,8 +27,11 @@ pub struct Options {
     pub limits: NamedLimitList,
     /// The greatest number of clauses that the solver may derive.
     pub budget: u64,
+    /// Which variable the solver decides next.
     pub decide: Decide,
+    /// The C file's name, as it was written.
     pub c_file: Name,
+    /// The Verilog file's name, as it was written.
     pub v_file: Name,
 }
 
