@@ -1,19 +1,20 @@
 -- From what each part of the way ensures to the answer's being right.
-use Rattle.std.proofs.Common.{◌≡◌, ◌≢◌, ℕ, ◌<◌, ◌≤◌, List, length, Option, None, Some, inl, inr, ap, sym, ◌∙◌, subst, arith, refl}
+use Rattle.std.proofs.Common.{◌≡◌, ◌≢◌, ℕ, ◌<◌, ◌≤◌, List, length, Option, None, Some, inl, inr, ap, sym, ◌∙◌, subst, arith, refl, true}
 use Rattle.std.specs.Prelude.{IfSome, string_bytes}
 use Rattle.io_edge.specs.Faults.{Rose}
 use Rattle.io_edge.specs.declared.reading.ReadEnd.{ReadEnd}
 use Rattle.io_edge.specs.declared.reading.ReadEnd.TheVariants as ends
 use Rattle.src_text.specs.declared.refusal.Lang.TheVariants.{C, V}
 use Rattle.src_text.specs.declared.refusal.Refusal.{Refusal}
-use Rattle.hwcbmc_core.specs.declared.options.Options.{Options}
+use Rattle.command_options.specs.declared.asked.Options.{Options}
 use Rattle.hwcbmc_core.specs.declared.answer.Answer.{Answer}
 use Rattle.hwcbmc_core.specs.declared.answer.Answer.TheVariants.{Usage, ReadFault, Refused, Failed, Successful, Memory}
 use Rattle.hwcbmc_core.specs.declared.sources.Program.{Program}
 use Rattle.hwcbmc_core.specs.declared.sources.Counter.{Counter}
 use Rattle.hwcbmc_core.specs.Sources.{IsProgram, IsCounter}
 use Rattle.hwcbmc_core.proofs.SourceLemmas.{same_program, same_counter}
-use Rattle.hwcbmc_core.specs.Answers.{Reading, FitsLength, AreRead, RefusesTexts, c_refused, v_refused, c_unsupported, v_unsupported, c_too_long, v_too_long, of_texts, unread, HoldsOf, Judges, IsTraceOfBreak, IsJudged, IsRightFor}
+use Rattle.hwcbmc_core.specs.Forms.{fit_forms}
+use Rattle.hwcbmc_core.specs.Answers.{Reading, FitsLength, AreRead, RefusesTexts, c_refused, v_refused, options_unsupported, c_unsupported, v_unsupported, c_too_long, v_too_long, of_texts, unread, HoldsOf, Judges, IsTraceOfBreak, IsJudged, IsRightFor}
 use Rattle.hwcbmc_core.specs.Runs.{Property, CanBreak}
 use Rattle.hwcbmc_core.specs.Trees.{HasTreeIn, IsRefused}
 
@@ -67,15 +68,17 @@ told_of P (Some bytes) text whole holds = subst P whole holds
 
 judges_told : (options : Options) (told : List ℕ → Option (List ℕ)) (c_text v_text : List ℕ) (Holds : Program → Counter → Type 0)
     → IfSome (told options.c_file) (λ bytes. c_text ≡ bytes) → IfSome (told options.v_file) (λ bytes. v_text ≡ bytes)
-    → HoldsOf c_text v_text Holds → Judges options told Holds
+    → HoldsOf options c_text v_text Holds → Judges options told Holds
 judges_told options told c_text v_text Holds c_whole v_whole judged =
-    told_of (λ c. IfSome (told options.v_file) (λ v. HoldsOf c v Holds)) (told options.c_file) c_text c_whole
-    (told_of (λ v. HoldsOf c_text v Holds) (told options.v_file) v_text v_whole judged)
+    told_of (λ c. IfSome (told options.v_file) (λ v. HoldsOf options c v Holds)) (told options.c_file) c_text c_whole
+    (told_of (λ v. HoldsOf options c_text v Holds) (told options.v_file) v_text v_whole judged)
 
 -- what holds of the pair that was read holds of each pair that the texts are
-pub holds_of : (c_text v_text : List ℕ) (program : Program) (counter : Counter) (Holds : Program → Counter → Type 0)
-    → HasTreeIn C c_text → HasTreeIn V v_text → IsProgram c_text program → IsCounter v_text counter → Holds program counter → HoldsOf c_text v_text Holds
-holds_of c_text v_text program counter Holds c_read v_read is_program is_counter holds = (
+pub holds_of : (options : Options) (c_text v_text : List ℕ) (program : Program) (counter : Counter) (Holds : Program → Counter → Type 0)
+    → fit_forms options ≡ true → HasTreeIn C c_text → HasTreeIn V v_text → IsProgram c_text program → IsCounter v_text counter → Holds program counter
+    → HoldsOf options c_text v_text Holds
+holds_of options c_text v_text program counter Holds fit c_read v_read is_program is_counter holds = (
+  fit,
   c_read,
   v_read,
   (program, is_program),
@@ -94,6 +97,8 @@ refuses_told options c_told v_told c_text v_text file refusal c_whole v_whole (c
     c_refused r (told_of (λ text. IsRefused C text r) c_told c_text c_whole refused)
 refuses_told options c_told v_told c_text v_text file refusal c_whole v_whole (v_refused r read refused) =
     v_refused r (told_of (HasTreeIn C) c_told c_text c_whole read) (told_of (λ text. IsRefused V text r) v_told v_text v_whole refused)
+refuses_told options c_told v_told c_text v_text file refusal c_whole v_whole (options_unsupported c_read v_read unfit) =
+    options_unsupported (told_of (HasTreeIn C) c_told c_text c_whole c_read) (told_of (HasTreeIn V) v_told v_text v_whole v_read) unfit
 refuses_told options c_told v_told c_text v_text file refusal c_whole v_whole (c_unsupported c_read v_read none) =
     c_unsupported (told_of (HasTreeIn C) c_told c_text c_whole c_read) (told_of (HasTreeIn V) v_told v_text v_whole v_read)
     (told_of (λ text. (program : Program) → ¬ (IsProgram text program)) c_told c_text c_whole none)

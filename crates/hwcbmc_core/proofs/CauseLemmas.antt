@@ -4,10 +4,10 @@ use Rattle.std.specs.Prelude.{string_bytes}
 use Rattle.io_edge.specs.Faults.{Rose}
 use Rattle.io_edge.specs.Sink.{Appends}
 use Rattle.src_text.specs.declared.refusal.Refusal.{Refusal}
-use Rattle.hwcbmc_core.specs.declared.options.Options.{Options}
+use Rattle.command_options.specs.declared.asked.Options.{Options}
 use Rattle.hwcbmc_core.specs.declared.answer.Answer.{Answer}
 use Rattle.hwcbmc_core.specs.declared.answer.Answer.TheVariants.{Usage, ReadFault, Refused, Failed, Successful, Memory}
-use Rattle.hwcbmc_core.specs.Words.{options_of}
+use Rattle.command_options.specs.Options.{options_of}
 use Rattle.hwcbmc_core.specs.Runs.{Property, CanBreak}
 use Rattle.hwcbmc_core.specs.Answers.{Reading, NoFault, IsFirstRefusal, c_too_long, v_too_long, of_texts, Judges, IsTraceOfBreak, IsRight}
 use Rattle.hwcbmc_core.specs.Delivery.{Stream, IsDelivered, IsSentAs, message_of}

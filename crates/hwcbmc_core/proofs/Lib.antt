@@ -4,6 +4,5 @@ pub mod OptionLemmas
 pub mod SourceLemmas
 pub mod RunLemmas
 pub mod TraceLemmas
-pub mod WordLemmas
 pub mod AnswerLemmas
 pub mod CauseLemmas

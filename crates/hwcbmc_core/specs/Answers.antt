@@ -1,5 +1,5 @@
 -- Which answer is right for the words and the files.
-use Rattle.std.specs.Prelude.{◌≡◌, ℕ, ◌<◌, ◌≤◌, ◌⊎◌, List, length, Option, None, Some, IfSome}
+use Rattle.std.specs.Prelude.{◌≡◌, ℕ, ◌<◌, ◌≤◌, ◌⊎◌, List, length, Option, None, Some, IfSome, true, false}
 use Rattle.std.specs.String.{string_bytes}
 use Rattle.io_edge.specs.Faults.{Rose}
 use Rattle.src_text.specs.declared.refusal.Refusal.{Refusal}
@@ -9,12 +9,13 @@ use Rattle.src_text.specs.declared.kind.Kind.{Kind}
 use Rattle.src_text.specs.declared.kind.Kind.TheVariants.{TooLong, Unsupported}
 use Rattle.io_edge.specs.declared.reading.ReadEnd.{ReadEnd}
 use Rattle.io_edge.specs.declared.reading.ReadEnd.TheVariants as ends
-use Rattle.hwcbmc_core.specs.declared.options.Options.{Options}
+use Rattle.command_options.specs.declared.asked.Options.{Options}
 use Rattle.hwcbmc_core.specs.declared.sources.Program.{Program}
 use Rattle.hwcbmc_core.specs.declared.sources.Counter.{Counter}
 use Rattle.hwcbmc_core.specs.declared.answer.Answer.{Answer}
 use Rattle.hwcbmc_core.specs.declared.answer.Answer.TheVariants.{Usage, ReadFault, Refused, Failed, Successful, Memory}
-use Rattle.hwcbmc_core.specs.Words.{options_of}
+use Rattle.command_options.specs.Options.{options_of}
+use Rattle.hwcbmc_core.specs.Forms.{fit_forms}
 use Rattle.hwcbmc_core.specs.Sources.{IsProgram, IsCounter}
 use Rattle.hwcbmc_core.specs.Trees.{HasTreeIn, IsRefused}
 use Rattle.hwcbmc_core.specs.Runs.{Property, Broken, run_of, CanBreak}
@@ -62,13 +63,15 @@ pub record AreRead (options : Options) (told : List ℕ → Option (List ℕ)) (
   pub c_fits : FitsLength (told options.c_file)
   pub v_fits : FitsLength (told options.v_file)
 
--- The first refusal of two texts, as far as they are told, in order: one that has no tree, C first; then one that isn't of
--- its written form, C first.
+-- The first refusal of two texts, as far as they are told, in order: one that has no tree, C first; then options that the
+-- written forms don't fit; then a text that isn't of its written form, C first.
 pub data RefusesTexts (options : Options) (c_told v_told : Option (List ℕ)) : List ℕ → Refusal → Type 0 where
   c_refused : (refusal : Refusal) → IfSome c_told (λ text. IsRefused C text refusal)
       → RefusesTexts options c_told v_told options.c_file refusal
   v_refused : (refusal : Refusal) → IfSome c_told (HasTreeIn C) → IfSome v_told (λ text. IsRefused V text refusal)
       → RefusesTexts options c_told v_told options.v_file refusal
+  options_unsupported : IfSome c_told (HasTreeIn C) → IfSome v_told (HasTreeIn V) → fit_forms options ≡ false
+      → RefusesTexts options c_told v_told options.c_file (at_beginning C Unsupported)
   c_unsupported : IfSome c_told (HasTreeIn C) → IfSome v_told (HasTreeIn V)
       → IfSome c_told (λ text. (program : Program) → ¬ (IsProgram text program))
       → RefusesTexts options c_told v_told options.c_file (at_beginning C Unsupported)
@@ -87,17 +90,17 @@ pub data IsFirstRefusal (options : Options) (told : List ℕ → Option (List �
       → RefusesTexts options (told options.c_file) (told options.v_file) file refusal
       → IsFirstRefusal options told before after file refusal
 
--- Both texts have trees and are of their written forms, and what is said holds of the pair that they are.
-abbrev pub HoldsOf : List ℕ → List ℕ → (Program → Counter → Type 0) → Type 0
-HoldsOf c_text v_text Holds =
-    HasTreeIn C c_text × HasTreeIn V v_text
+-- The written forms fit the options, both texts have trees and are of their forms, and what is said holds of the pair that they are.
+abbrev pub HoldsOf : Options → List ℕ → List ℕ → (Program → Counter → Type 0) → Type 0
+HoldsOf options c_text v_text Holds =
+    (fit_forms options ≡ true) × HasTreeIn C c_text × HasTreeIn V v_text
     × ((program : Program) × IsProgram c_text program) × ((counter : Counter) × IsCounter v_text counter)
     × ((program : Program) (counter : Counter) → IsProgram c_text program → IsCounter v_text counter → Holds program counter)
 
 -- The same of the two files, where their bytes are told.
 abbrev pub Judges : Options → (List ℕ → Option (List ℕ)) → (Program → Counter → Type 0) → Type 0
 Judges options told Holds =
-    IfSome (told options.c_file) (λ c_text. IfSome (told options.v_file) (λ v_text. HoldsOf c_text v_text Holds))
+    IfSome (told options.c_file) (λ c_text. IfSome (told options.v_file) (λ v_text. HoldsOf options c_text v_text Holds))
 
 -- The text is the trace of a run that breaks the property which it names.
 abbrev pub IsTraceOfBreak : Program → Counter → Options → List ℕ → Type 0
@@ -118,9 +121,9 @@ IsJudged options c_text v_text Usage = ⊥
 IsJudged options c_text v_text (ReadFault file) = ⊥
 IsJudged options c_text v_text (Refused file refusal) = RefusesTexts options (Some c_text) (Some v_text) file refusal
 IsJudged options c_text v_text (Failed trace) =
-    HoldsOf c_text v_text (λ program counter. IsTraceOfBreak program counter options (string_bytes trace))
+    HoldsOf options c_text v_text (λ program counter. IsTraceOfBreak program counter options (string_bytes trace))
 IsJudged options c_text v_text Successful =
-    HoldsOf c_text v_text (λ program counter. (property : Property) → ¬ (CanBreak program counter options.bounds property))
+    HoldsOf options c_text v_text (λ program counter. (property : Property) → ¬ (CanBreak program counter options.bounds property))
 IsJudged options c_text v_text Memory = Unit {0}
 
 -- The answer is right for words that have these options.

@@ -17,7 +17,7 @@ status_of Memory = 9
 
 -- the whole text of an answer
 abbrev pub message_of : Answer → List ℕ
-message_of Usage = codes "hwcbmc: usage: hwcbmc [--module NAME] [--bound K] [--unwind N] [--budget B] [--decide order|activity] [--check-bound] C_FILE V_FILE\n"
+message_of Usage = codes "hwcbmc: usage: hwcbmc [--module NAME] [--bound K] [--unwind N] [--unwindset LIST] [--budget B] [--decide order|activity] [--check-bound] C_FILE V_FILE\n"
 message_of (ReadFault file) = codes "hwcbmc: " ++ (file ++ codes ": read fault\n")
 message_of (Refused file refusal) =
     codes "hwcbmc: " ++ (file ++ (codes ":" ++ (decimal refusal.place.line ++ (codes ":" ++ (decimal refusal.place.column

@@ -6,12 +6,12 @@ ghost use Rattle.hwcbmc_core.specs.Answers.{IsRight, IsRightFor, IsJudged};
 ghost use Rattle.hwcbmc_core.specs.Trees.{HasTreeIn};
 
 use crate::answer::Answer;
+use crate::forms::fit_forms;
 use crate::judging::breaks;
-use crate::options::{Options, UsageEnd};
 use crate::reading::{TreesEnd, read_texts};
 use crate::sources::{read_c, read_v};
 use crate::tracing::trace;
-use crate::words::options;
+use command_options::{Options, UsageEnd, options};
 use io_edge::{Files, read_all};
 use src_text::{Kind, Lang};
 use std::alloc::{AllocError, Global};
@@ -64,13 +64,16 @@ fn judge(alloc: Global, options: Options, c_text: &[u8], v_text: &[u8]) -> Answe
     }
 }
 
-/// The verdict on texts that have trees, which must be of the written forms.
+/// The verdict on texts that have trees, which must be of the written forms, as the options must be.
 fn verdict(alloc: Global, options: Options, c_text: &[u8], v_text: &[u8]) -> Answer
     requires c_fits { length c_text.now ≤ 1048576 }
     requires c_read { HasTreeIn C c_text.now }
     requires v_read { HasTreeIn V v_text.now }
     ensures { IsJudged options c_text.now v_text.now result }
 {
+    if !fit_forms(&options) {
+        return Answer::refused(options.c_file, Lang::C, Kind::Unsupported);
+    }
     let Some(program) = read_c(c_text) else {
         return Answer::refused(options.c_file, Lang::C, Kind::Unsupported);
     };

@@ -9,7 +9,7 @@ use src_text::{Name, Refusal};
 use std::alloc::{AllocError, Global};
 
 const USAGE: &str =
-    "hwcbmc: usage: hwcbmc [--module NAME] [--bound K] [--unwind N] [--budget B] [--decide order|activity] [--check-bound] C_FILE V_FILE\n";
+    "hwcbmc: usage: hwcbmc [--module NAME] [--bound K] [--unwind N] [--unwindset LIST] [--budget B] [--decide order|activity] [--check-bound] C_FILE V_FILE\n";
 
 const OUT_OF_MEMORY: &str = "hwcbmc: out of memory\n";
 

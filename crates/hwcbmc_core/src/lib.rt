@@ -10,16 +10,13 @@ ghost use Rattle.hwcbmc_core.specs.declared.answer.Answer.{Answer};
 ghost use Rattle.hwcbmc_core.specs.Answers.{IsRight, IsFirstRefusal, IsTraceOfBreak, Judges};
 ghost use Rattle.hwcbmc_core.specs.Delivery.{IsDelivered, message_of};
 ghost use Rattle.hwcbmc_core.specs.Runs.{CanBreak};
-ghost use Rattle.hwcbmc_core.specs.Words.{options_of};
-
-// Words to options.
-mod options;
-mod words;
+ghost use Rattle.command_options.specs.Options.{options_of};
 
 // Texts to trees. After this both texts are of their grammars, and no tree is too deep.
 mod reading;
 
-// Texts to a pair of sources. After this a pair is of the written forms.
+// Texts to a pair of sources. After this a pair is of the written forms, and these fit the options.
+mod forms;
 mod sources;
 
 // A pair and its bounds to a verdict.

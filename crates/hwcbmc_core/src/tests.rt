@@ -108,7 +108,7 @@ const V_TEXT: &str =
     "module counter(input clk, output reg [7:0] count); initial count = 0; always @(posedge clk) count <= count + 1; endmodule\n";
 
 const USAGE: &str =
-    "hwcbmc: usage: hwcbmc [--module NAME] [--bound K] [--unwind N] [--budget B] [--decide order|activity] [--check-bound] C_FILE V_FILE\n";
+    "hwcbmc: usage: hwcbmc [--module NAME] [--bound K] [--unwind N] [--unwindset LIST] [--budget B] [--decide order|activity] [--check-bound] C_FILE V_FILE\n";
 
 /// The files beside those that are nested.
 const TEXTS: [(&str, &str); 10] = [
