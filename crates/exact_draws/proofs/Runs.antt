@@ -1,6 +1,6 @@
 -- Runs draw just what they tell.
 use Rattle.std.proofs.Common.{ℕ, zero, suc, ◌+◌, List, [], ◌∷◌, ◌++◌, refl}
-use Rattle.std.specs.Prelude.{ℤ, Option, Some, None, Bool, true, false, slice_get}
+use Rattle.std.specs.Prelude.{◌-◌, ℤ, Option, Some, None, Bool, true, false, slice_get}
 use Rattle.src_text.specs.declared.refusal.Place.{Place}
 use Rattle.joint_ir.specs.declared.bounds.Bounds.{Bounds}
 use Rattle.joint_ir.specs.declared.ctype.IntType.{IntType}
@@ -14,7 +14,7 @@ use Rattle.joint_ir.specs.declared.stmt.TStmt.{TStmt}
 use Rattle.joint_ir.specs.Views.{widths_of, site_widths, shown}
 use Rattle.joint_ir.specs.Effects.{Effect, Goes, Stops, TooFew, Next, Breaking, Continuing, Returning, nothing, seen}
 use Rattle.joint_ir.specs.Steps.{Calls, store_at, with_locals}
-use Rattle.joint_ir.specs.Statements.{set_params, closing, after_body, any_result, body_effect, entered_body, entered_function, is_below_limit, no_calls, calls_at}
+use Rattle.joint_ir.specs.Statements.{ACTIVATIONS, set_params, closing, after_body, any_result, body_effect, entered_body, entered_function, is_below_limit, no_calls, calls_at}
 use Rattle.joint_ir.specs.Runs.{draw_registers, body_of, main_effect, ended}
 use Rattle.exact_draws.specs.Draws.{DrawsIn, Draws, ExactDraws}
 use Rattle.exact_draws.proofs.Parts.{Steady, kept, on_behind, goes_draws, stops_draws, then_draws, draw_draws, draw_all_draws}
@@ -71,7 +71,7 @@ module _ (pair : Pair) (b : Bounds) where
   main_steady : (body : Option TStmt) → Steady (main_effect pair b body)
   main_steady None = λ s. goes_draws Next s nothing refl
   main_steady (Some body) =
-      after_steady (record { pair = pair; bounds = b; here = pair.program.main }) (calls_at pair b 31 (pair.program.main ∷ [])) (calls_steady 31 (pair.program.main ∷ [])) body.place body.node
+      after_steady (record { pair = pair; bounds = b; here = pair.program.main }) (calls_at pair b (ACTIVATIONS - 1) (pair.program.main ∷ [])) (calls_steady (ACTIVATIONS - 1) (pair.program.main ∷ [])) body.place body.node
 
 registers_draw : (firsts : List (Option ℕ)) (widths : List ℕ) (go : List ℕ → List ℕ → Effect) → ((ns : List ℕ) → Draws (go ns)) → Draws (λ c. draw_registers firsts widths c go)
 registers_draw [] widths go h = h []

@@ -1,5 +1,5 @@
 -- A joint run, as a function of the choices that it draws.
-use Rattle.std.specs.Prelude.{◌≡◌, ℕ, List, [], ◌∷◌, slice_get, Option, Some, None, pos}
+use Rattle.std.specs.Prelude.{◌≡◌, ℕ, ◌-◌, List, [], ◌∷◌, slice_get, Option, Some, None, pos}
 use Rattle.joint_ir.specs.declared.bounds.Bounds.{Bounds}
 use Rattle.joint_ir.specs.declared.event.Event.TheVariants.{Frame}
 use Rattle.joint_ir.specs.declared.event.Outcome.TheVariants.{Ended, Broken}
@@ -12,11 +12,7 @@ use Rattle.joint_ir.specs.States.{first_rows}
 use Rattle.joint_ir.specs.Views.{widths_of, site_widths, filled, shown}
 use Rattle.joint_ir.specs.Effects.{Effect, Told, nothing, seen, Goes, Stops, TooFew, Next, Onward, then_do, draw, draw_all}
 use Rattle.joint_ir.specs.Steps.{Setting, settled_view}
-use Rattle.joint_ir.specs.Statements.{after, calls_at}
-
--- the activations that may stand at one time, the first one of `main` among them
-abbrev pub ACTIVATIONS : ℕ
-ACTIVATIONS = 32
+use Rattle.joint_ir.specs.Statements.{ACTIVATIONS, after, calls_at}
 
 -- the register words at the start: a first value where there is one, else one choice
 abbrev pub draw_registers : (firsts : List (Option ℕ)) → (widths : List ℕ) → List ℕ → (List ℕ → List ℕ → Effect) → Effect
@@ -50,7 +46,7 @@ abbrev pub main_effect : Pair → Bounds → Option TStmt → Onward
 main_effect p b None s c = Goes Next s nothing c
 main_effect p b (Some body) s c =
     let k : Setting = record { pair = p; bounds = b; here = p.program.main } in
-    after k (calls_at p b 31 (p.program.main ∷ [])) body.place body.node s c
+    after k (calls_at p b (ACTIVATIONS - 1) (p.program.main ∷ [])) body.place body.node s c
 
 -- a run ends where `main` has
 abbrev pub ended : Effect → Effect

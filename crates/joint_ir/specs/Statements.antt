@@ -28,6 +28,10 @@ use Rattle.joint_ir.specs.States.{JointState}
 use Rattle.joint_ir.specs.Effects.{Effect, nothing, Goes, Stops, TooFew, Next, Breaking, Continuing, Returning, Onward, then_do, after_turn, after_groups, broken, with_value, draw}
 use Rattle.joint_ir.specs.Steps.{Setting, Calls, rows_in, limit_of, store_at, call_effect, store_effect, update_effect, declare_effect, return_effect, returning, with_locals, set_inputs, next_frame}
 
+-- the activations that may stand at one time, the first one of `main` among them
+abbrev pub ACTIVATIONS : ℕ
+ACTIVATIONS = 32
+
 -- the value of a condition; a `for` without one goes on
 abbrev pub condition_value : Rows → Option TExpr → Answer
 condition_value rows None = Value (pos 1)

@@ -1,6 +1,6 @@
 -- What a pair weighs: a measure of the gates that its unwinding makes, by recursion on the trees, with the limits of loops
 -- and the activations that stand.
-use Rattle.std.specs.Prelude.{ℕ, zero, suc, ◌+◌, ◌*◌, Bool, true, false, if◌then◌else◌, max, min, List, [], ◌∷◌, ◌++◌, length, sum_by, slice_get}
+use Rattle.std.specs.Prelude.{ℕ, zero, suc, ◌+◌, ◌-◌, ◌*◌, Bool, true, false, if◌then◌else◌, max, min, List, [], ◌∷◌, ◌++◌, length, sum_by, slice_get}
 use Rattle.std.specs.Prelude.{Option, Some, None}
 use Rattle.joint_ir.specs.declared.bounds.Bounds.{Bounds}
 use Rattle.joint_ir.specs.declared.ctype.IntType.{IntType}
@@ -32,7 +32,7 @@ use Rattle.joint_ir.specs.declared.stmt.TUpdate.{TUpdate}
 use Rattle.joint_ir.specs.States.{element_count}
 use Rattle.joint_ir.specs.Views.{same_role, members_of}
 use Rattle.joint_ir.specs.Steps.{Setting, limit_of, slot_type, result_of}
-use Rattle.joint_ir.specs.Statements.{is_below_limit}
+use Rattle.joint_ir.specs.Statements.{ACTIVATIONS, is_below_limit}
 use Rattle.joint_ir.specs.Runs.{body_of}
 
 -- the number of elements of an array, and 0 for what is no array
@@ -305,7 +305,7 @@ abbrev pub main_weight : Pair → Bounds → Option TStmt → ℕ
 main_weight p b None = 0
 main_weight p b (Some body) =
     let k : Setting = record { pair = p; bounds = b; here = p.program.main } in
-    weight k (calls_weight p b 31 (p.program.main ∷ [])) body.node
+    weight k (calls_weight p b (ACTIVATIONS - 1) (p.program.main ∷ [])) body.node
 
 -- the file-scope elements
 abbrev pub globals_weight : List Var → ℕ

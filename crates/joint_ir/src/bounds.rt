@@ -3,6 +3,9 @@
 use crate::program::PropId;
 use sqlite_items::Items;
 
+/// The activations that may stand at one time, the first one of `main` among them.
+pub const ACTIVATIONS: usize = 32;
+
 /// A limit of its own for one loop or one function, named by its `unwind` or `recursion` property.
 #[derive(Clone, Copy, Debug, PartialEq, Eq)]
 pub struct Limit {

@@ -16,7 +16,7 @@ pub mod program;
 pub mod stmt;
 pub mod weighing;
 
-pub use bounds::{Bounds, Limit, LimitList};
+pub use bounds::{ACTIVATIONS, Bounds, Limit, LimitList};
 pub use ctype::IntType;
 pub use event::{Choices, Event, EventList, Outcome, Shown, ShownList};
 pub use expr::{BinaryOp, LogicOp, Slot, TExpr, TExprList, TNode, UnaryOp};

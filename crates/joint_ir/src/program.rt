@@ -24,7 +24,7 @@ pub enum PropKind {
     Bounds,
     /// A loop makes no more turns than its limit.
     Unwind,
-    /// A function has no more activations than its limit, nor the run more than 32.
+    /// A function has no more activations than its limit, nor the run more than `ACTIVATIONS`.
     Recursion,
     /// No clock edge is asked for after the last one.
     Frame,

@@ -9,7 +9,7 @@ ghost use Rattle.std.specs.Prelude.{◌≡◌, ◌<◌, ◌≤◌, ◌^◌, leng
 ghost use Rattle.joint_ir.specs.Weights.{weight_of, capped as capped_of, main_weight as main_of};
 ghost use Rattle.joint_ir.specs.Runs.{body_of};
 
-use crate::bounds::Bounds;
+use crate::bounds::{ACTIVATIONS, Bounds};
 use crate::module::Role;
 use crate::pair::Pair;
 use stmts::Scale;
@@ -48,7 +48,7 @@ fn main_weight(pair: &Pair, bounds: &Bounds) -> u64
                     pair,
                     bounds,
                     here: main,
-                    left: 31,
+                    left: ACTIVATIONS as u32 - 1,
                 };
                 stmts::stmt(&at, &[main], body)
             }

@@ -1,6 +1,6 @@
 -- How many choices a run draws at most.
 use Rattle.std.proofs.Common.{◌≢◌, ℕ, zero, suc, ◌+◌, ◌≤◌, List, [], ◌∷◌, ◌++◌, length, le_refl, subst, arith}
-use Rattle.std.specs.Prelude.{ℤ, Option, Some, None, Bool, true, false, slice_get}
+use Rattle.std.specs.Prelude.{◌-◌, ℤ, Option, Some, None, Bool, true, false, slice_get}
 use Rattle.src_text.specs.declared.refusal.Place.{Place}
 use Rattle.joint_ir.specs.declared.bounds.Bounds.{Bounds}
 use Rattle.joint_ir.specs.declared.ctype.IntType.{IntType}
@@ -14,7 +14,7 @@ use Rattle.joint_ir.specs.Views.{widths_of, site_widths, shown}
 use Rattle.joint_ir.specs.States.{JointState}
 use Rattle.joint_ir.specs.Effects.{Effect, Told, seen, Onward, Goes, Stops, TooFew, Next, Breaking, Continuing, Returning, then_do}
 use Rattle.joint_ir.specs.Steps.{Calls, store_at, with_locals}
-use Rattle.joint_ir.specs.Statements.{set_params, closing, after_body, any_result, body_effect, entered_body, entered_function, is_below_limit, no_calls, calls_at}
+use Rattle.joint_ir.specs.Statements.{ACTIVATIONS, set_params, closing, after_body, any_result, body_effect, entered_body, entered_function, is_below_limit, no_calls, calls_at}
 use Rattle.joint_ir.specs.Runs.{draw_registers, with_first_state, body_of, main_effect, ended, run_of}
 use Rattle.joint_laws.specs.Choices.{EnoughChoices}
 use Rattle.joint_laws.proofs.Leaves.{Leaves, DrawsAtMost, Bounded, then_leaves, draw_leaves, draws_leave}
@@ -100,7 +100,7 @@ module _ (pair : Pair) (b : Bounds) where
   main_bounded : (body : Option TStmt) → Bounded (main_effect pair b body)
   main_bounded None = record { most = 0; draws = λ j s c le. omega arith }
   main_bounded (Some body) =
-      after_bounded (record { pair = pair; bounds = b; here = pair.program.main }) (calls_at pair b 31 (pair.program.main ∷ [])) (calls_bounded 31 (pair.program.main ∷ []))
+      after_bounded (record { pair = pair; bounds = b; here = pair.program.main }) (calls_at pair b (ACTIVATIONS - 1) (pair.program.main ∷ [])) (calls_bounded (ACTIVATIONS - 1) (pair.program.main ∷ []))
       body.place body.node
 
 registers_leave : (i j : ℕ) (firsts : List (Option ℕ)) (widths c : List ℕ) (go : List ℕ → List ℕ → Effect) → length firsts + j ≤ length c →

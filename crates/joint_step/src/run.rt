@@ -9,7 +9,7 @@ ghost use Rattle.joint_step.specs.Ends.{IsRun, IsCutOff, IsShort};
 
 use crate::parts::Activation;
 use crate::walk;
-use joint_ir::{Bounds, Choices, Event, EventList, Outcome, Pair};
+use joint_ir::{ACTIVATIONS, Bounds, Choices, Event, EventList, Outcome, Pair};
 use joint_machine::{Machine, Way, machine};
 use joint_value::{Rows, Store};
 use joint_view::{Halt, seen, steps};
@@ -132,7 +132,7 @@ fn main_body(
                     pair,
                     bounds,
                     here,
-                    left: 31,
+                    left: ACTIVATIONS as u32 - 1,
                 };
                 walk::statement(alloc, &at, machine, body)
             }

@@ -1,6 +1,6 @@
 -- The machine without limits does what calls and runs do; so nothing breaks without the limits where no run breaks.
 use Rattle.std.proofs.Common.{◌≡◌, ℕ, zero, suc, ◌%◌, ◌^◌, Bool, true, false, List, [], ◌∷◌, ◌++◌, refl, sym, ap, ◌∙◌, subst}
-use Rattle.std.specs.Prelude.{ℤ, Option, Some, None, slice_get, eqb}
+use Rattle.std.specs.Prelude.{◌-◌, ℤ, Option, Some, None, slice_get, eqb}
 use Rattle.std.proofs.lemmas.Bool.{false≢true}
 use Rattle.src_text.specs.declared.refusal.Place.{Place}
 use Rattle.joint_ir.specs.declared.bounds.Bounds.{Bounds}
@@ -16,7 +16,7 @@ use Rattle.joint_ir.specs.Views.{widths_of, site_widths, shown}
 use Rattle.joint_ir.specs.States.{JointState}
 use Rattle.joint_ir.specs.Effects.{Effect, Told, drew, seen, preceded, Goes, Stops, TooFew, Next, Breaking, Continuing, Returning, draw, draw_all}
 use Rattle.joint_ir.specs.Steps.{Calls, with_locals}
-use Rattle.joint_ir.specs.Statements.{set_params, closing, after, after_body, entered_body, entered_function, is_below_limit, no_calls, calls_at, any_result}
+use Rattle.joint_ir.specs.Statements.{ACTIVATIONS, set_params, closing, after, after_body, entered_body, entered_function, is_below_limit, no_calls, calls_at, any_result}
 use Rattle.joint_ir.specs.Runs.{draw_registers, body_of, main_effect, ended, run_of}
 use Rattle.joint_ir.specs.Machine.{Task, Do, BodyEnd, Configuration, At, Over, IsBroken, Lacks, onward, enter, enter_body, step, steps, setting_in, main_tasks, first_configuration}
 use Rattle.joint_ir.specs.WellFormed.{IsWellFormed, FitsBody, FitsStmt, scope_of}
@@ -113,7 +113,7 @@ module _ (pair : Pair) (b : Bounds) (well : IsWellFormed pair) where
   main_arrives (Some body) e s c =
       let m = well.program.main in
       let fit : FitsStmt (scope_of pair.program pair.program.main m.0) body.node = fits_body pair.program.main m.0 m.0.body body (sym (main_found (slice_get pair.program.functions pair.program.main) m.0 m.1) ∙ e) (well.program.functions pair.program.main m.0 m.1).body in
-      stmt_comes pair b pair.program.main (calls_at pair b 31 (pair.program.main ∷ [])) (calls_arrive 31 (pair.program.main ∷ [])) (calls_next pair b 31 (pair.program.main ∷ [])) (scope_of pair.program pair.program.main m.0) refl body.place body.node fit [] s c
+      stmt_comes pair b pair.program.main (calls_at pair b (ACTIVATIONS - 1) (pair.program.main ∷ [])) (calls_arrive (ACTIVATIONS - 1) (pair.program.main ∷ [])) (calls_next pair b (ACTIVATIONS - 1) (pair.program.main ∷ [])) (scope_of pair.program pair.program.main m.0) refl body.place body.node fit [] s c
 
   -- what goes on from draws
   draw_along : (tasks : List Task) (bits : ℕ) (c : List ℕ) (f g : ℕ → List ℕ → Effect) → ((n : ℕ) (rest : List ℕ) → Arrives pair b [] (onward tasks (f n rest)) (g n rest)) → Arrives pair b [] (onward tasks (draw bits c f)) (draw bits c g)

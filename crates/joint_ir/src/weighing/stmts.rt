@@ -3,11 +3,11 @@
 ghost use Rattle.std.specs.Prelude.{◌≡◌, ◌+◌, ◌*◌, ◌<◌, ◌≤◌, ◌^◌, ◌++◌, ◌∷◌, [], min, take, length, slice_get, Some, nat_lt, count_by, eqb, if◌then◌else◌};
 ghost use Rattle.joint_ir.specs.Weights.{capped as capped_of, weight as node_weight, init_weight, call_weight, return_weight, declare_weight, loop_weight, group_weight, entered_weight, function_weight, calls_weight, body_weight, turns_weight, CallWeights};
 ghost use Rattle.joint_ir.specs.Weighed.{setting_of, calls_of, stmts_weight, option_stmt_weight, groups_of_weight};
-ghost use Rattle.joint_ir.specs.Statements.{is_below_limit};
+ghost use Rattle.joint_ir.specs.Statements.{is_below_limit, ACTIVATIONS};
 
 use super::exprs::capped;
 use super::{exprs, parts};
-use crate::bounds::Bounds;
+use crate::bounds::{ACTIVATIONS, Bounds};
 use crate::expr::TExpr;
 use crate::lookup;
 use crate::pair::Pair;
@@ -29,7 +29,7 @@ pub struct Scale<'a> {
 #[cycle(weigh)]
 pub fn stmt(at: &Scale, standing: &[u32], s: &TStmt) -> u64
     requires props { length at.now.pair.now.program.props < 2 ^ 32 }
-    requires room { length standing.now + at.now.left ≤ 32 }
+    requires room { length standing.now + at.now.left ≤ ACTIVATIONS }
     ensures value { result ≡ capped_of (node_weight (setting_of at.now) (calls_of at.now standing.now) s.now.node) }
     ensures bound { result ≤ 16777217 }
 {
@@ -78,7 +78,7 @@ pub fn stmt(at: &Scale, standing: &[u32], s: &TStmt) -> u64
 #[cycle(weigh)]
 fn stmts(at: &Scale, standing: &[u32], items: &[TStmt]) -> u64
     requires props { length at.now.pair.now.program.props < 2 ^ 32 }
-    requires room { length standing.now + at.now.left ≤ 32 }
+    requires room { length standing.now + at.now.left ≤ ACTIVATIONS }
     ensures value { result ≡ capped_of (stmts_weight (setting_of at.now) (calls_of at.now standing.now) items.now) }
     ensures bound { result ≤ 16777217 }
 {
@@ -96,7 +96,7 @@ fn stmts(at: &Scale, standing: &[u32], items: &[TStmt]) -> u64
 #[cycle(weigh)]
 fn option(at: &Scale, standing: &[u32], first: u64, other: &Option<Boxed<TStmt>>) -> u64
     requires props { length at.now.pair.now.program.props < 2 ^ 32 }
-    requires room { length standing.now + at.now.left ≤ 32 }
+    requires room { length standing.now + at.now.left ≤ ACTIVATIONS }
     requires first { first ≤ 16777217 }
     ensures value { result ≡ capped_of (first + option_stmt_weight (setting_of at.now) (calls_of at.now standing.now) other.now) }
     ensures bound { result ≤ 16777217 }
@@ -116,7 +116,7 @@ fn option(at: &Scale, standing: &[u32], first: u64, other: &Option<Boxed<TStmt>>
 #[cycle(weigh)]
 fn turns(at: &Scale, standing: &[u32], one: &TLoop) -> u64
     requires props { length at.now.pair.now.program.props < 2 ^ 32 }
-    requires room { length standing.now + at.now.left ≤ 32 }
+    requires room { length standing.now + at.now.left ≤ ACTIVATIONS }
     ensures value { result ≡ capped_of (loop_weight (setting_of at.now) (calls_of at.now standing.now) one.now) }
     ensures bound { result ≤ 16777217 }
 {
@@ -135,7 +135,7 @@ fn turns(at: &Scale, standing: &[u32], one: &TLoop) -> u64
 #[cycle(weigh)]
 fn groups(at: &Scale, standing: &[u32], bits: u8, cases: &[Group]) -> u64
     requires props { length at.now.pair.now.program.props < 2 ^ 32 }
-    requires room { length standing.now + at.now.left ≤ 32 }
+    requires room { length standing.now + at.now.left ≤ ACTIVATIONS }
     ensures value { result ≡ capped_of (groups_of_weight (setting_of at.now) (calls_of at.now standing.now) bits cases.now) }
     ensures bound { result ≤ 16777217 }
 {
@@ -155,7 +155,7 @@ fn groups(at: &Scale, standing: &[u32], bits: u8, cases: &[Group]) -> u64
 #[cycle(weigh)]
 fn init(at: &Scale, standing: &[u32], value: &TInit) -> u64
     requires props { length at.now.pair.now.program.props < 2 ^ 32 }
-    requires room { length standing.now + at.now.left ≤ 32 }
+    requires room { length standing.now + at.now.left ≤ ACTIVATIONS }
     ensures value { result ≡ capped_of (init_weight at.now.pair.now.program (calls_of at.now standing.now) value.now) }
     ensures bound { result ≤ 16777217 }
 {
@@ -170,7 +170,7 @@ fn init(at: &Scale, standing: &[u32], value: &TInit) -> u64
 #[cycle(weigh)]
 fn call(at: &Scale, standing: &[u32], one: &TCall) -> u64
     requires props { length at.now.pair.now.program.props < 2 ^ 32 }
-    requires room { length standing.now + at.now.left ≤ 32 }
+    requires room { length standing.now + at.now.left ≤ ACTIVATIONS }
     ensures value { result ≡ capped_of (call_weight at.now.pair.now.program (calls_of at.now standing.now) one.now) }
     ensures bound { result ≤ 16777217 }
 {
@@ -185,7 +185,7 @@ fn call(at: &Scale, standing: &[u32], one: &TCall) -> u64
 #[cycle(weigh)]
 fn callee(at: &Scale, standing: &[u32], f: u32) -> u64
     requires props { length at.now.pair.now.program.props < 2 ^ 32 }
-    requires room { length standing.now + at.now.left ≤ 32 }
+    requires room { length standing.now + at.now.left ≤ ACTIVATIONS }
     ensures value { result ≡ capped_of (calls_of at.now standing.now f) }
     ensures bound { result ≤ 16777217 }
 {
@@ -222,11 +222,11 @@ fn is_below(at: &Scale, standing: &[u32], f: u32, function: &Function) -> bool
 }
 
 /// The functions whose activations stand, with one more behind them, at the front of an array.
-fn one_more(standing: &[u32], f: u32) -> [u32; 32]
-    requires { length standing.now < 32 }
+fn one_more(standing: &[u32], f: u32) -> [u32; ACTIVATIONS]
+    requires { length standing.now < ACTIVATIONS }
     ensures { take (length standing.now + 1) result ≡ standing.now ++ f ∷ [] }
 {
-    let mut all = [0u32; 32];
+    let mut all = [0u32; ACTIVATIONS];
     for (k, g) in standing.iter().enumerate() {
         all[k] = *g;
     }
