@@ -31,7 +31,7 @@ use Rattle.joint_ir.specs.declared.expr.Slot.TheVariants.{Local as Automatic}
 use Rattle.joint_ir.specs.declared.program.PropKind.TheVariants as kind
 use Rattle.joint_ir.specs.Types.{int}
 use Rattle.joint_ir.specs.States.{JointState}
-use Rattle.joint_ir.specs.Effects.{Next}
+use Rattle.joint_ir.specs.declared.way.Way.TheVariants.{Next}
 use Rattle.c_names.specs.declared.scope.Entry.TheVariants as entry
 use Rattle.c_names.specs.Scope.{Scope}
 use Rattle.c_runs.specs.Effects.{Goes, Stops, Broken}

@@ -7,7 +7,8 @@ use Rattle.joint_ir.specs.declared.ctype.IntType.{IntType}
 use Rattle.joint_ir.specs.declared.expr.Slot.TheVariants.{Local as Automatic}
 use Rattle.joint_ir.specs.declared.program.PropKind.TheVariants as kind
 use Rattle.joint_ir.specs.Types.{converted}
-use Rattle.joint_ir.specs.Effects.{Next, Breaking, Continuing, Returning, nothing}
+use Rattle.joint_ir.specs.Effects.{nothing}
+use Rattle.joint_ir.specs.declared.way.Way.TheVariants.{Next, Breaking, Continuing, Returning}
 use Rattle.joint_ir.specs.Steps.{returning, with_locals}
 use Rattle.c_words.specs.Marks.{number_of}
 use Rattle.c_runs.specs.Effects.{CEffect, Goes, Stops, TooFew, Ended, Onward, then_do, draw}

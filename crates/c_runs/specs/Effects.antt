@@ -3,7 +3,9 @@ use Rattle.std.specs.Prelude.{ℕ, ◌%◌, ◌^◌, List, [], ◌∷◌, ℤ}
 use Rattle.src_text.specs.declared.refusal.Place.{Place}
 use Rattle.joint_ir.specs.declared.program.PropKind.{PropKind}
 use Rattle.joint_ir.specs.States.{JointState}
-use Rattle.joint_ir.specs.Effects.{Way, Next, Breaking, Continuing, Returning, Told, drew, joined}
+use Rattle.joint_ir.specs.Effects.{Told, drew, joined}
+use Rattle.joint_ir.specs.declared.way.Way.{Way}
+use Rattle.joint_ir.specs.declared.way.Way.TheVariants.{Next, Breaking, Continuing, Returning}
 use Rattle.c_expressions.specs.Values.{CAnswer, Gives, Breaks}
 
 -- how a run ends: `main` returned, an assumption was 0, the frames ran out, or a property broke

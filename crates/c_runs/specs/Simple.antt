@@ -26,7 +26,8 @@ use Rattle.joint_ir.specs.Types.{int, converted}
 use Rattle.joint_ir.specs.Values.{Rows}
 use Rattle.joint_ir.specs.States.{JointState, View, rows_of, put}
 use Rattle.joint_ir.specs.Views.{site_widths, widths_of, next_registers, changed}
-use Rattle.joint_ir.specs.Effects.{Next, Returning, nothing, seen}
+use Rattle.joint_ir.specs.Effects.{nothing, seen}
+use Rattle.joint_ir.specs.declared.way.Way.TheVariants.{Next, Returning}
 use Rattle.joint_ir.specs.Steps.{with_store, returning, element_of, is_within, low_part, type_or_int, settled_view}
 use Rattle.c_words.specs.Marks.{number_of, update_op}
 use Rattle.c_words.specs.Types.{named}

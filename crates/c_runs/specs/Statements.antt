@@ -19,7 +19,8 @@ use Rattle.joint_ir.specs.declared.program.PropKind.TheVariants as kind
 use Rattle.joint_ir.specs.Types.{converted}
 use Rattle.joint_ir.specs.Values.{is_zero}
 use Rattle.joint_ir.specs.States.{JointState}
-use Rattle.joint_ir.specs.Effects.{Next, Breaking, Continuing, nothing}
+use Rattle.joint_ir.specs.Effects.{nothing}
+use Rattle.joint_ir.specs.declared.way.Way.TheVariants.{Next, Breaking, Continuing}
 use Rattle.c_words.specs.Types.{promoted}
 use Rattle.c_expressions.specs.Expressions.{type_of}
 use Rattle.c_expressions.specs.Values.{CAnswer, Gives, c_value, in_type}

@@ -12,7 +12,8 @@ use Rattle.joint_ir.specs.declared.pair.Pair.{Pair}
 use Rattle.joint_ir.specs.declared.program.Function.{Function}
 use Rattle.joint_ir.specs.declared.stmt.TStmt.{TStmt}
 use Rattle.joint_ir.specs.Views.{widths_of, site_widths, shown}
-use Rattle.joint_ir.specs.Effects.{Effect, Goes, Stops, TooFew, Next, Breaking, Continuing, Returning, nothing, seen}
+use Rattle.joint_ir.specs.Effects.{Effect, Goes, Stops, TooFew, nothing, seen}
+use Rattle.joint_ir.specs.declared.way.Way.TheVariants.{Next, Breaking, Continuing, Returning}
 use Rattle.joint_ir.specs.Steps.{Calls, store_at, with_locals}
 use Rattle.joint_ir.specs.Statements.{ACTIVATIONS, set_params, closing, after_body, any_result, body_effect, entered_body, entered_function, is_below_limit, no_calls, calls_at}
 use Rattle.joint_ir.specs.Runs.{draw_registers, body_of, main_effect, ended}

@@ -23,7 +23,8 @@ use Rattle.joint_ir.specs.Views.{widths_of, site_widths}
 use Rattle.joint_ir.specs.States.{JointState}
 use Rattle.joint_ir.specs.declared.event.Event.TheVariants.{Stored, Broke}
 use Rattle.joint_ir.specs.declared.event.Outcome.TheVariants.{Broken, Cut, OutOfFrames}
-use Rattle.joint_ir.specs.Effects.{Effect, Onward, Goes, Stops, Next, Breaking, Continuing, Returning, nothing, seen, broken, then_do, with_value}
+use Rattle.joint_ir.specs.Effects.{Effect, Onward, Goes, Stops, nothing, seen, broken, then_do, with_value}
+use Rattle.joint_ir.specs.declared.way.Way.TheVariants.{Next, Breaking, Continuing, Returning}
 use Rattle.joint_ir.specs.Steps.{Setting, Calls, element_of, rows_in, call_effect, with_init, with_index, within_bounds, right_value, slot_type, store_at, store_effect, update_effect, free_elements, set_elements, declare_object, declare_var, return_effect, set_inputs, clock_edge, next_frame}
 use Rattle.joint_ir.specs.Statements.{tested, turns, loop_effect, at_entry, entered, after, after_row, after_other, after_loop, groups_from, after_group}
 use Rattle.exact_draws.specs.Draws.{Draws}

@@ -6,15 +6,10 @@ use Rattle.joint_ir.specs.declared.event.Outcome.{Outcome}
 use Rattle.joint_ir.specs.declared.event.Outcome.TheVariants.{Broken}
 use Rattle.joint_ir.specs.declared.expr.TExpr.{TExpr}
 use Rattle.joint_ir.specs.declared.program.PropId.{PropId}
+use Rattle.joint_ir.specs.declared.way.Way.{Way}
+use Rattle.joint_ir.specs.declared.way.Way.TheVariants.{Next, Breaking, Continuing, Returning}
 use Rattle.joint_ir.specs.Values.{Answer, Value, Fault, Rows, value_of}
 use Rattle.joint_ir.specs.States.{JointState}
-
--- which way a statement that came to its end goes on
-pub data Way : Type 0 where
-  Next : Way
-  Breaking : Way
-  Continuing : Way
-  Returning : Way
 
 -- what is told of a stretch: the events that are seen, and the widths of the numbers that are drawn, both in order. The
 -- k-th choice that a run uses up is drawn at the k-th width

@@ -23,7 +23,8 @@ use Rattle.src_text.specs.declared.refusal.Place.{Place}
 use Rattle.joint_ir.specs.Types.{converted}
 use Rattle.joint_ir.specs.Values.{Answer, Value, Fault, value_of, is_zero}
 use Rattle.joint_ir.specs.States.{JointState}
-use Rattle.joint_ir.specs.Effects.{Effect, nothing, Goes, Stops, TooFew, Next, Breaking, Continuing, Returning, Onward}
+use Rattle.joint_ir.specs.Effects.{Effect, nothing, Goes, Stops, TooFew, Onward}
+use Rattle.joint_ir.specs.declared.way.Way.TheVariants.{Next, Breaking, Continuing, Returning}
 use Rattle.joint_ir.specs.Steps.{Setting, rows_in, with_locals, returning, slot_type, result_of, type_or_int, var_type, within_bounds, store_at, store_effect, update_effect, declare_effect, return_effect, set_inputs, next_frame}
 use Rattle.joint_ir.specs.Statements.{no_calls, condition_value, entered, set_params, closing, any_result}
 use Rattle.joint_ir.specs.Runs.{with_first_state, body_of}

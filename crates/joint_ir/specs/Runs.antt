@@ -10,7 +10,8 @@ use Rattle.joint_ir.specs.declared.program.PropId.{PropId}
 use Rattle.joint_ir.specs.declared.stmt.TStmt.{TStmt}
 use Rattle.joint_ir.specs.States.{first_rows}
 use Rattle.joint_ir.specs.Views.{widths_of, site_widths, filled, shown}
-use Rattle.joint_ir.specs.Effects.{Effect, Told, nothing, seen, Goes, Stops, TooFew, Next, Onward, then_do, draw, draw_all}
+use Rattle.joint_ir.specs.Effects.{Effect, Told, nothing, seen, Goes, Stops, TooFew, Onward, then_do, draw, draw_all}
+use Rattle.joint_ir.specs.declared.way.Way.TheVariants.{Next}
 use Rattle.joint_ir.specs.Steps.{Setting, settled_view}
 use Rattle.joint_ir.specs.Statements.{ACTIVATIONS, after, calls_at}
 

@@ -25,7 +25,8 @@ use Rattle.src_text.specs.declared.refusal.Place.{Place}
 use Rattle.joint_ir.specs.Types.{converted}
 use Rattle.joint_ir.specs.Values.{Answer, Value, Rows, value_of, is_zero}
 use Rattle.joint_ir.specs.States.{JointState}
-use Rattle.joint_ir.specs.Effects.{Effect, nothing, Goes, Stops, TooFew, Next, Breaking, Continuing, Returning, Onward, then_do, after_turn, after_groups, broken, with_value, draw}
+use Rattle.joint_ir.specs.Effects.{Effect, nothing, Goes, Stops, TooFew, Onward, then_do, after_turn, after_groups, broken, with_value, draw}
+use Rattle.joint_ir.specs.declared.way.Way.TheVariants.{Next, Breaking, Continuing, Returning}
 use Rattle.joint_ir.specs.Steps.{Setting, Calls, rows_in, limit_of, store_at, call_effect, store_effect, update_effect, declare_effect, return_effect, returning, with_locals, set_inputs, next_frame}
 
 -- the activations that may stand at one time, the first one of `main` among them

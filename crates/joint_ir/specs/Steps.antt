@@ -28,7 +28,8 @@ use Rattle.joint_ir.specs.Types.{int, converted}
 use Rattle.joint_ir.specs.Values.{Answer, Value, Rows, value_of, binary_value}
 use Rattle.joint_ir.specs.States.{Store, View, JointState, rows_of, put}
 use Rattle.joint_ir.specs.Views.{widths_of, site_widths, settled_wires, next_registers, filled, members_of, driven, changed}
-use Rattle.joint_ir.specs.Effects.{Effect, nothing, seen, Goes, Stops, Next, Returning, Onward, then_do, broken, check_then, with_value, with_values, draw, draw_all}
+use Rattle.joint_ir.specs.Effects.{Effect, nothing, seen, Goes, Stops, Onward, then_do, broken, check_then, with_value, with_values, draw, draw_all}
+use Rattle.joint_ir.specs.declared.way.Way.TheVariants.{Next, Returning}
 
 -- what a run is of, and the function whose body runs
 pub record Setting : Type 0 where

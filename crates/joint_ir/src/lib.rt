@@ -14,6 +14,7 @@ pub mod naming;
 pub mod pair;
 pub mod program;
 pub mod stmt;
+pub mod way;
 pub mod weighing;
 
 pub use bounds::{ACTIVATIONS, Bounds, Limit, LimitList};
@@ -31,4 +32,5 @@ pub use stmt::{
     Group, GroupList, Label, LabelList, SNode, TCall, TInit, TLoop, TStmt, TStmtList, TTarget,
     TUpdate,
 };
+pub use way::Way;
 pub use weighing::weight;

@@ -12,7 +12,8 @@ use Rattle.joint_ir.specs.declared.program.Function.{Function}
 use Rattle.joint_ir.specs.declared.stmt.TStmt.{TStmt}
 use Rattle.joint_ir.specs.Views.{widths_of, site_widths, shown}
 use Rattle.joint_ir.specs.States.{JointState}
-use Rattle.joint_ir.specs.Effects.{Effect, Told, seen, Onward, Goes, Stops, TooFew, Next, Breaking, Continuing, Returning, then_do}
+use Rattle.joint_ir.specs.Effects.{Effect, Told, seen, Onward, Goes, Stops, TooFew, then_do}
+use Rattle.joint_ir.specs.declared.way.Way.TheVariants.{Next, Breaking, Continuing, Returning}
 use Rattle.joint_ir.specs.Steps.{Calls, store_at, with_locals}
 use Rattle.joint_ir.specs.Statements.{ACTIVATIONS, set_params, closing, after_body, any_result, body_effect, entered_body, entered_function, is_below_limit, no_calls, calls_at}
 use Rattle.joint_ir.specs.Runs.{draw_registers, with_first_state, body_of, main_effect, ended, run_of}

@@ -21,7 +21,8 @@ use Rattle.joint_ir.specs.Types.{converted}
 use Rattle.joint_ir.specs.Values.{Answer, binary_value, value_of, is_zero}
 use Rattle.joint_ir.specs.Views.{widths_of, site_widths}
 use Rattle.joint_ir.specs.States.{JointState}
-use Rattle.joint_ir.specs.Effects.{Effect, nothing, Onward, Goes, Stops, Next, broken, with_value}
+use Rattle.joint_ir.specs.Effects.{Effect, nothing, Onward, Goes, Stops, broken, with_value}
+use Rattle.joint_ir.specs.declared.way.Way.TheVariants.{Next}
 use Rattle.joint_ir.specs.Steps.{Setting, Calls, slot_type, element_of, rows_in, call_effect, with_init, with_index, within_bounds, right_value, store_at, store_effect, update_effect, free_elements, set_elements, declare_object, declare_var, return_effect, set_inputs, clock_edge, next_frame}
 use Rattle.joint_ir.specs.Statements.{tested, turns, loop_effect, at_entry, entered, after, after_row, after_other, after_loop, groups_from, after_group}
 use Rattle.joint_laws.proofs.Leaves.{Leaves, DrawsAtMost, Bounded, then_leaves, turn_leaves, groups_leave, check_leaves, value_leaves, values_leave, draw_leaves, draws_leave, then_draws, bounded_then}

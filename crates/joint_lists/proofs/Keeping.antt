@@ -25,7 +25,8 @@ use Rattle.joint_ir.specs.Types.{converted}
 use Rattle.joint_ir.specs.Values.{Answer, Value, Fault, Rows, binary_value, value_of, is_zero}
 use Rattle.joint_ir.specs.Views.{widths_of, site_widths}
 use Rattle.joint_ir.specs.States.{JointState, put}
-use Rattle.joint_ir.specs.Effects.{Effect, Onward, Told, nothing, drew, Goes, Stops, TooFew, Next, Breaking, Continuing, Returning, preceded, then_do, after_turn, after_groups, check_then, broken, with_value, with_values, draw, draw_all}
+use Rattle.joint_ir.specs.Effects.{Effect, Onward, Told, nothing, drew, Goes, Stops, TooFew, preceded, then_do, after_turn, after_groups, check_then, broken, with_value, with_values, draw, draw_all}
+use Rattle.joint_ir.specs.declared.way.Way.TheVariants.{Next, Breaking, Continuing, Returning}
 use Rattle.joint_ir.specs.Steps.{Setting, Calls, slot_type, element_of, rows_in, returning, with_store, with_locals, call_effect, with_init, with_index, within_bounds, right_value, store_at, store_effect, update_effect, free_elements, set_elements, declare_object, declare_var, return_effect, set_inputs, clock_edge, next_frame, at_view}
 use Rattle.joint_ir.specs.declared.bounds.Bounds.{Bounds}
 use Rattle.joint_ir.specs.declared.pair.Pair.{Pair}

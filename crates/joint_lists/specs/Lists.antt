@@ -4,7 +4,8 @@ use Rattle.std.specs.List.{position_from, list_any}
 use Rattle.joint_ir.specs.declared.stmt.Group.{Group, out-Group}
 use Rattle.joint_ir.specs.declared.stmt.Label.{Label}
 use Rattle.joint_ir.specs.declared.stmt.TStmt.{TStmt}
-use Rattle.joint_ir.specs.Effects.{nothing, Goes, Next, Onward, then_do}
+use Rattle.joint_ir.specs.Effects.{nothing, Goes, Onward, then_do}
+use Rattle.joint_ir.specs.declared.way.Way.TheVariants.{Next}
 use Rattle.joint_ir.specs.Steps.{Setting, Calls}
 use Rattle.joint_ir.specs.Statements.{after, is_case, is_default}
 use Rattle.joint_ir.specs.WellFormed.{Scope, FitsStmt, with_scope_locals, declared_behind}

@@ -11,7 +11,8 @@ use Rattle.joint_ir.specs.declared.stmt.TUpdate.{TUpdate}
 use Rattle.joint_ir.specs.Types.{converted}
 use Rattle.joint_ir.specs.Values.{binary_value}
 use Rattle.joint_ir.specs.States.{JointState}
-use Rattle.joint_ir.specs.Effects.{Onward, Goes, Next, preceded, then_do, with_value, draw}
+use Rattle.joint_ir.specs.Effects.{Onward, Goes, preceded, then_do, with_value, draw}
+use Rattle.joint_ir.specs.declared.way.Way.TheVariants.{Next}
 use Rattle.joint_ir.specs.Steps.{Setting, rows_in, store_at, free_elements, set_elements, first_value, slot_type, element_of, right_value, with_index, within_bounds, update_effect}
 use Rattle.joint_ir.specs.Statements.{set_params}
 use Rattle.joint_view.specs.declared.halt.Halt.{Halt}

@@ -6,7 +6,8 @@ use Rattle.joint_ir.specs.declared.event.Event.{Event}
 use Rattle.joint_ir.specs.declared.event.Outcome.TheVariants.{Broken}
 use Rattle.joint_ir.specs.declared.program.PropId.{PropId}
 use Rattle.joint_ir.specs.Values.{Answer, Value, Fault}
-use Rattle.joint_ir.specs.Effects.{Effect, Told, nothing, joined, Onward, Goes, Stops, TooFew, Next, Breaking, Continuing, Returning, preceded, then_do, after_turn, after_groups, with_value, broken}
+use Rattle.joint_ir.specs.Effects.{Effect, Told, nothing, joined, Onward, Goes, Stops, TooFew, preceded, then_do, after_turn, after_groups, with_value, broken}
+use Rattle.joint_ir.specs.declared.way.Way.TheVariants.{Next, Breaking, Continuing, Returning}
 use Rattle.joint_ir.specs.Steps.{returning}
 use Rattle.joint_ir.specs.States.{JointState}
 use Rattle.joint_ir.specs.declared.pair.Pair.{Pair}

@@ -8,7 +8,8 @@ use Rattle.joint_ir.specs.States.{JointState}
 use Rattle.joint_ir.specs.declared.event.Event.TheVariants.{Frame, Driven}
 use Rattle.joint_ir.specs.declared.module.Role.TheVariants.{Input}
 use Rattle.joint_ir.specs.Views.{filled, site_widths, widths_of, driven, changed, next_registers}
-use Rattle.joint_ir.specs.Effects.{Effect, Told, nothing, seen, drew, Onward, Goes, Stops, TooFew, Next, preceded, broken, draw, draw_all}
+use Rattle.joint_ir.specs.Effects.{Effect, Told, nothing, seen, drew, Onward, Goes, Stops, TooFew, preceded, broken, draw, draw_all}
+use Rattle.joint_ir.specs.declared.way.Way.TheVariants.{Next}
 use Rattle.joint_ir.specs.declared.event.Outcome.TheVariants.{OutOfFrames}
 use Rattle.joint_ir.specs.Steps.{Setting, set_inputs, clock_edge, next_frame, settled_view, at_view}
 use Rattle.joint_ir.specs.WellFormed.{FitsProgram}

@@ -7,7 +7,6 @@ use Rattle.joint_ir.specs.declared.expr.Slot.TheVariants.{Local}
 use Rattle.joint_ir.specs.declared.pair.Pair.{Pair}
 use Rattle.joint_ir.specs.declared.program.CProgram.{CProgram}
 use Rattle.joint_ir.specs.States.{JointState}
-use Rattle.joint_ir.specs.Effects as effects
 use Rattle.joint_ir.specs.Effects.{Effect, Told, Onward, Goes, Stops, TooFew, preceded}
 use Rattle.joint_ir.specs.Steps.{Setting, Calls, slot_type}
 use Rattle.joint_ir.specs.Statements.{calls_at}
@@ -19,8 +18,8 @@ use Rattle.joint_view.specs.declared.halt.Halt.TheVariants as halt
 use Rattle.joint_view.specs.Conditions.{IsView}
 use Rattle.joint_view.specs.Halts.{last_events, only_seen, unmeasured}
 use Rattle.joint_machine.specs.declared.machine.Machine.{Machine}
-use Rattle.joint_machine.specs.declared.machine.Way.{Way}
-use Rattle.joint_machine.specs.declared.machine.Way.TheVariants as way
+use Rattle.joint_ir.specs.declared.way.Way.{Way}
+use Rattle.joint_ir.specs.declared.way.Way.TheVariants as way
 
 abbrev pub state_of : Machine → JointState
 state_of m = record { store = m.store; view = m.view; edges = m.edges; returned = m.returned }
@@ -32,12 +31,6 @@ left_of m = drop m.at m.choices
 -- what was seen so far
 abbrev pub told_of : Machine → Told
 told_of m = only_seen m.events.items
-
-abbrev pub way_of : Way → effects.Way
-way_of way.Next = effects.Next
-way_of way.Breaking = effects.Breaking
-way_of way.Continuing = effects.Continuing
-way_of way.Returning = effects.Returning
 
 -- an effect ends a run as a machine that halts shows; want of memory says nothing of it
 abbrev pub Halts : Halt → Machine → Effect → Type 0
@@ -51,7 +44,7 @@ from_here m f = preceded (told_of m) (unmeasured (f (state_of m) (left_of m)))
 
 -- an effect is what a machine shows
 abbrev pub Shows : Result Way Halt → Machine → Effect → Type 0
-Shows (Ok w) m e = e ≡ Goes (way_of w) (state_of m) (told_of m) (left_of m)
+Shows (Ok w) m e = e ≡ Goes w (state_of m) (told_of m) (left_of m)
 Shows (Err h) m e = Halts h m e
 
 -- a machine did what a stretch of a run does
@@ -60,7 +53,7 @@ Does result old new f = Shows result new (from_here old f)
 
 -- the same for a stretch that goes on to the next statement if it goes on
 abbrev pub Passes : {A : Type 0} → Result A Halt → (old new : Machine) → Onward → Type 0
-Passes (Ok _) old new f = from_here old f ≡ Goes effects.Next (state_of new) (told_of new) (left_of new)
+Passes (Ok _) old new f = from_here old f ≡ Goes way.Next (state_of new) (told_of new) (left_of new)
 Passes (Err h) old new f = Halts h new (from_here old f)
 
 -- a machine found a value, whatever goes on with it

@@ -8,10 +8,10 @@ ghost use Rattle.joint_ir.specs.Types.{IsType};
 ghost use Rattle.joint_ir.specs.WellFormed.{IsWellFormed};
 ghost use Rattle.joint_value.specs.Elements.{part_of, replaced};
 ghost use Rattle.joint_value.specs.Evaluable.{KeepsTypes};
-ghost use Rattle.joint_machine.specs.Moments.{Passes, AreParams, IsKept, IsReady, way_of};
+ghost use Rattle.joint_machine.specs.Moments.{Passes, AreParams, IsKept, IsReady};
 
-use crate::machine::{Machine, Way};
-use joint_ir::{Bounds, Function, IntType, Pair, lookup};
+use crate::machine::Machine;
+use joint_ir::{Bounds, Function, IntType, Pair, Way, lookup};
 use joint_value::Rows;
 use joint_view::Halt;
 use std::alloc::Global;
@@ -76,7 +76,7 @@ impl Machine {
     ) -> Result<(), Halt>
         requires typed { IfSome ty IsType }
         requires room { first + length saved ≤ length self.old.store.locals }
-        ensures does { Passes result self.old self.new (λ s c. after_body is_main ty (replaced first saved self.old.store.locals) (Goes (way_of way) s nothing c)) }
+        ensures does { Passes result self.old self.new (λ s c. after_body is_main ty (replaced first saved self.old.store.locals) (Goes way s nothing c)) }
         ensures choices { self.new.choices ≡ self.old.choices }
         ensures standing { (before : List ℕ) (f : ℕ) → self.old.standing.items ≡ before ++ f ∷ [] → self.new.standing.items ≡ before }
         ensures ready { IfOk result (λ _. (pair : Pair) (caller : Store) → IsReady pair self.old → KeepsTypes pair.program caller → replaced first saved self.old.store.locals ≡ caller.locals → IsReady pair self.new) }

@@ -9,4 +9,4 @@ pub mod machine;
 pub mod reaching;
 pub mod simple;
 
-pub use machine::{Machine, Way};
+pub use machine::Machine;

@@ -16,15 +16,6 @@ use joint_value::Store;
 use joint_view::{Halt, View, choices};
 use std::alloc::AllocError;
 
-/// Which way a statement that came to its end goes on.
-#[derive(Clone, Copy, Debug, PartialEq, Eq)]
-pub enum Way {
-    Next,
-    Breaking,
-    Continuing,
-    Returning,
-}
-
 /// What a run holds at one moment.
 #[derive(Drop)]
 pub struct Machine {

@@ -1,7 +1,8 @@
 //! What statements do without calls.
 
 ghost use Rattle.std.specs.Prelude.{◌≡◌, ◌<◌, ◌^◌, [], ◌+◌, length, map, drop, All, IfOk, IfSome, pos, IsSome, MatchOption, slice_index_or, if◌then◌else◌};
-ghost use Rattle.joint_ir.specs.Effects.{with_values, with_value, draw as drawn, broken, nothing, Stops, Goes, Next};
+ghost use Rattle.joint_ir.specs.Effects.{with_values, with_value, draw as drawn, broken, nothing, Stops, Goes};
+ghost use Rattle.joint_ir.specs.declared.way.Way.TheVariants.{Next};
 ghost use Rattle.joint_ir.specs.Steps.{rows_in, with_index, within_bounds, store_at, update_effect, slot_type as type_of, free_elements as free_elements_of, set_elements as set_elements_of, element_of, right_value, first_value};
 ghost use Rattle.joint_ir.specs.Statements.{set_params as params_set, any_result as any_result_of, condition_value};
 ghost use Rattle.joint_ir.specs.Types.{InRange, IsType, converted as converted_to};

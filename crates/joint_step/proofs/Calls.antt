@@ -10,15 +10,16 @@ use Rattle.joint_ir.specs.declared.pair.Pair.{Pair}
 use Rattle.joint_ir.specs.declared.program.Function.{Function}
 use Rattle.joint_ir.specs.declared.stmt.TStmt.{TStmt}
 use Rattle.src_text.specs.declared.refusal.Place.{Place}
-use Rattle.joint_ir.specs.Effects.{Effect, Onward, Told, nothing, joined, Goes, Stops, TooFew, Next, Breaking, Continuing, Returning, preceded, then_do, broken}
+use Rattle.joint_ir.specs.Effects.{Effect, Onward, Told, nothing, joined, Goes, Stops, TooFew, preceded, then_do, broken}
+use Rattle.joint_ir.specs.declared.way.Way.TheVariants.{Next, Breaking, Continuing, Returning}
 use Rattle.joint_ir.specs.Steps.{Calls, with_locals}
 use Rattle.joint_ir.specs.Statements.{after, after_body, closing, set_params, any_result, body_effect, entered_body, entered_function, is_below_limit, recursion_prop, calls_at, no_calls}
 use Rattle.joint_view.specs.Halts.{only_seen, unmeasured}
 use Rattle.joint_view.specs.declared.halt.Halt.{Halt}
 use Rattle.joint_view.specs.declared.halt.Halt.TheVariants as halt
 use Rattle.joint_machine.specs.declared.machine.Machine.{Machine}
-use Rattle.joint_machine.specs.declared.machine.Way.{Way}
-use Rattle.joint_machine.specs.Moments.{state_of, left_of, told_of, way_of, Halts, from_here}
+use Rattle.joint_ir.specs.declared.way.Way.{Way}
+use Rattle.joint_machine.specs.Moments.{state_of, left_of, told_of, Halts, from_here}
 use Rattle.joint_machine.proofs.Flow.{then_passes, then_halts, unmeasured_behind, unmeasured_law}
 use Rattle.joint_step.specs.Parts.{may_stand}
 
@@ -97,11 +98,11 @@ module _ (is_main : Bool) (ty : Option IntType) (locals : List (List ℤ)) where
   halts_body halt.Memory m e p = p
 
   -- an activation that came to its end, and its leave
-  pub body_left : (w : Way) (m : Machine) → unmeasured (after_body is_main ty locals (Goes (way_of w) (state_of m) (told_of m) (left_of m))) ≡
-      from_here m (λ s c. after_body is_main ty locals (Goes (way_of w) s nothing c))
+  pub body_left : (w : Way) (m : Machine) → unmeasured (after_body is_main ty locals (Goes w (state_of m) (told_of m) (left_of m))) ≡
+      from_here m (λ s c. after_body is_main ty locals (Goes w s nothing c))
   body_left w m =
-      ap (λ (es : List Event). unmeasured (after_body is_main ty locals (Goes (way_of w) (state_of m) (only_seen es) (left_of m)))) (sym (append-nil m.events.items))
-      ∙ sym (body_law m.events.items (Goes (way_of w) (state_of m) nothing (left_of m)))
+      ap (λ (es : List Event). unmeasured (after_body is_main ty locals (Goes w (state_of m) (only_seen es) (left_of m)))) (sym (append-nil m.events.items))
+      ∙ sym (body_law m.events.items (Goes w (state_of m) nothing (left_of m)))
 
 -- ---- a body that is entered
 
@@ -127,8 +128,8 @@ module _ (p : Pair) (b : Bounds) (inner : Calls) (f : ℕ) (fn : Function) (body
     pub going_halts : (h : Halt) (new : Machine) → Halts h new (from_here mid going) → Halts h new (from_here old (body_effect p b inner f fn body place args))
     going_halts h new e = subst (λ (x : Effect). Halts h new x) (sym entered_is) (halts_body (eqb f p.program.main) fn.result old.store.locals h new (from_here mid going) e)
 
-    pub going_done : (w : Way) (new : Machine) → from_here mid going ≡ Goes (way_of w) (state_of new) (told_of new) (left_of new) →
+    pub going_done : (w : Way) (new : Machine) → from_here mid going ≡ Goes w (state_of new) (told_of new) (left_of new) →
         from_here old (body_effect p b inner f fn body place args) ≡
-        from_here new (λ s c. after_body (eqb f p.program.main) fn.result old.store.locals (Goes (way_of w) s nothing c))
+        from_here new (λ s c. after_body (eqb f p.program.main) fn.result old.store.locals (Goes w s nothing c))
     going_done w new e =
         entered_is ∙ ap (λ (x : Effect). unmeasured (after_body (eqb f p.program.main) fn.result old.store.locals x)) e ∙ body_left (eqb f p.program.main) fn.result old.store.locals w new

@@ -9,7 +9,8 @@ use Rattle.joint_ir.specs.declared.program.PropId.{PropId}
 use Rattle.joint_ir.specs.declared.stmt.Group.{Group, out-Group}
 use Rattle.joint_ir.specs.declared.stmt.TStmt.{TStmt}
 use Rattle.joint_ir.specs.Values.{Answer, Value, Fault, value_of, is_zero}
-use Rattle.joint_ir.specs.Effects.{Effect, Onward, nothing, Goes, Next, Returning, then_do, after_groups, with_value}
+use Rattle.joint_ir.specs.Effects.{Effect, Onward, nothing, Goes, then_do, after_groups, with_value}
+use Rattle.joint_ir.specs.declared.way.Way.TheVariants.{Next, Returning}
 use Rattle.joint_ir.specs.Steps.{Setting, Calls, rows_in, returning}
 use Rattle.joint_ir.specs.Statements.{after, at_entry}
 use Rattle.joint_ir.specs.declared.event.Event.{Event}
@@ -17,9 +18,9 @@ use Rattle.joint_view.specs.Halts.{only_seen}
 use Rattle.joint_view.specs.declared.halt.Halt.{Halt}
 use Rattle.joint_view.specs.declared.halt.Halt.TheVariants as halt
 use Rattle.joint_machine.specs.declared.machine.Machine.{Machine}
-use Rattle.joint_machine.specs.declared.machine.Way.{Way}
-use Rattle.joint_machine.specs.declared.machine.Way.TheVariants as way
-use Rattle.joint_machine.specs.Moments.{state_of, left_of, told_of, way_of, Halts, Shows, Does, IsKept, IsReady, from_here}
+use Rattle.joint_ir.specs.declared.way.Way.{Way}
+use Rattle.joint_ir.specs.declared.way.Way.TheVariants as way
+use Rattle.joint_machine.specs.Moments.{state_of, left_of, told_of, Halts, Shows, Does, IsKept, IsReady, from_here}
 use Rattle.joint_machine.proofs.Flow.{onward, then_law, groups_law, then_passes, then_halts, halts_groups, nothing_done}
 use Rattle.joint_lists.specs.Lists.{after_items, after_option, after_cases, entered_case}
 use Rattle.joint_lists.proofs.Rows.{chosen, switched}
@@ -111,8 +112,8 @@ module _ (k : Setting) (calls : Calls) (m : Machine) (e : TExpr) (groups : List 
   switch_halts h p is fault = value_halts h m (value_of (rows_in k (state_of m)) e) p from_entry is fault
 
 -- behind the groups: `break` leaves the switch
-pub groups_done : (w : Way) (old new : Machine) (f : Onward) → from_here old f ≡ Goes (way_of w) (state_of new) (told_of new) (left_of new) →
-    from_here old (λ s c. after_groups (f s c)) ≡ after_groups (Goes (way_of w) (state_of new) (told_of new) (left_of new))
+pub groups_done : (w : Way) (old new : Machine) (f : Onward) → from_here old f ≡ Goes w (state_of new) (told_of new) (left_of new) →
+    from_here old (λ s c. after_groups (f s c)) ≡ after_groups (Goes w (state_of new) (told_of new) (left_of new))
 groups_done w old new f e = groups_law (told_of old) (f (state_of old) (left_of old)) ∙ ap (λ (x : Effect). after_groups x) e
 
 pub groups_halt : (h : Halt) (old new : Machine) (f : Onward) → Halts h new (from_here old f) → Halts h new (from_here old (λ s c. after_groups (f s c)))
@@ -138,20 +139,20 @@ way_or d None = d
 way_or d (Some w) = w
 
 pub then_leaves : (w v : Way) (old new : Machine) (f go : Onward) → other_way w ≡ Some v →
-    from_here old f ≡ Goes (way_of w) (state_of new) (told_of new) (left_of new) →
-    from_here old (λ s c. then_do (f s c) go) ≡ Goes (way_of v) (state_of new) (told_of new) (left_of new)
+    from_here old f ≡ Goes w (state_of new) (told_of new) (left_of new) →
+    from_here old (λ s c. then_do (f s c) go) ≡ Goes v (state_of new) (told_of new) (left_of new)
 then_leaves way.Next v old new f go other e = absurd (subst is_there (sym other) tt)
 then_leaves way.Breaking v old new f go other e =
     then_law (told_of old) (f (state_of old) (left_of old)) go ∙ ap (λ (x : Effect). then_do x (onward go)) e
-    ∙ ap (λ (u : Way). Goes (way_of u) (state_of new) (told_of new) (left_of new)) (ap (way_or v) other)
+    ∙ ap (λ (u : Way). Goes u (state_of new) (told_of new) (left_of new)) (ap (way_or v) other)
 then_leaves way.Continuing v old new f go other e =
     then_law (told_of old) (f (state_of old) (left_of old)) go ∙ ap (λ (x : Effect). then_do x (onward go)) e
-    ∙ ap (λ (u : Way). Goes (way_of u) (state_of new) (told_of new) (left_of new)) (ap (way_or v) other)
+    ∙ ap (λ (u : Way). Goes u (state_of new) (told_of new) (left_of new)) (ap (way_or v) other)
 then_leaves way.Returning v old new f go other e =
     then_law (told_of old) (f (state_of old) (left_of old)) go ∙ ap (λ (x : Effect). then_do x (onward go)) e
-    ∙ ap (λ (u : Way). Goes (way_of u) (state_of new) (told_of new) (left_of new)) (ap (way_or v) other)
+    ∙ ap (λ (u : Way). Goes u (state_of new) (told_of new) (left_of new)) (ap (way_or v) other)
 
-pub passes_next : (w : Way) (old new : Machine) (f : Onward) → other_way w ≡ None → from_here old f ≡ Goes (way_of w) (state_of new) (told_of new) (left_of new) →
+pub passes_next : (w : Way) (old new : Machine) (f : Onward) → other_way w ≡ None → from_here old f ≡ Goes w (state_of new) (told_of new) (left_of new) →
     from_here old f ≡ Goes Next (state_of new) (told_of new) (left_of new)
 passes_next way.Next old new f is e = e
 passes_next way.Breaking old new f is e = absurd (subst is_there is tt)
@@ -165,13 +166,13 @@ module _ (k : Setting) (calls : Calls) (items : List TStmt) (i : ℕ) (x : TStmt
   items_now : from_here old (after_items k calls items) ≡ from_here m (λ s c. then_do (after k calls x.place x.node s c) (after_items k calls (drop (i + 1) items)))
   items_now = so_far ∙ ap (λ (l : List TStmt). from_here m (after_items k calls l)) (drop_more items i x lt ∙ ap (λ y. y ∷ drop (i + 1) items) (sym is))
 
-  pub items_step : (w : Way) (new : Machine) → other_way w ≡ None → from_here m (after k calls x.place x.node) ≡ Goes (way_of w) (state_of new) (told_of new) (left_of new) →
+  pub items_step : (w : Way) (new : Machine) → other_way w ≡ None → from_here m (after k calls x.place x.node) ≡ Goes w (state_of new) (told_of new) (left_of new) →
       from_here old (after_items k calls items) ≡ from_here new (after_items k calls (drop (i + 1) items))
   items_step w new next e =
       items_now ∙ then_passes m new (after k calls x.place x.node) (after_items k calls (drop (i + 1) items)) (passes_next w m new (after k calls x.place x.node) next e)
 
-  pub items_leave : (w v : Way) (new : Machine) → other_way w ≡ Some v → from_here m (after k calls x.place x.node) ≡ Goes (way_of w) (state_of new) (told_of new) (left_of new) →
-      from_here old (after_items k calls items) ≡ Goes (way_of v) (state_of new) (told_of new) (left_of new)
+  pub items_leave : (w v : Way) (new : Machine) → other_way w ≡ Some v → from_here m (after k calls x.place x.node) ≡ Goes w (state_of new) (told_of new) (left_of new) →
+      from_here old (after_items k calls items) ≡ Goes v (state_of new) (told_of new) (left_of new)
   items_leave w v new other e = items_now ∙ then_leaves w v m new (after k calls x.place x.node) (after_items k calls (drop (i + 1) items)) other e
 
   pub items_halt : (h : Halt) (new : Machine) → Halts h new (from_here m (after k calls x.place x.node)) → Halts h new (from_here old (after_items k calls items))
@@ -191,13 +192,13 @@ module _ (k : Setting) (calls : Calls) (groups : List Group) (from i : ℕ) (g :
   cases_now = so_far ∙ ap (λ (l : List Group). from_here m (after_cases k calls l)) (drop_more groups i g lt ∙ ap (λ y. y ∷ drop (i + 1) groups) (sym is))
       ∙ ap (λ (l : List TStmt). from_here m (λ s c. then_do (after_items k calls l s c) (after_cases k calls (drop (i + 1) groups)))) (sym its)
 
-  pub cases_step : (w : Way) (new : Machine) → other_way w ≡ None → from_here m (after_items k calls body) ≡ Goes (way_of w) (state_of new) (told_of new) (left_of new) →
+  pub cases_step : (w : Way) (new : Machine) → other_way w ≡ None → from_here m (after_items k calls body) ≡ Goes w (state_of new) (told_of new) (left_of new) →
       from_here old (after_cases k calls (drop from groups)) ≡ from_here new (after_cases k calls (drop (i + 1) groups))
   cases_step w new next e =
       cases_now ∙ then_passes m new (after_items k calls body) (after_cases k calls (drop (i + 1) groups)) (passes_next w m new (after_items k calls body) next e)
 
-  pub cases_leave : (w v : Way) (new : Machine) → other_way w ≡ Some v → from_here m (after_items k calls body) ≡ Goes (way_of w) (state_of new) (told_of new) (left_of new) →
-      from_here old (after_cases k calls (drop from groups)) ≡ Goes (way_of v) (state_of new) (told_of new) (left_of new)
+  pub cases_leave : (w v : Way) (new : Machine) → other_way w ≡ Some v → from_here m (after_items k calls body) ≡ Goes w (state_of new) (told_of new) (left_of new) →
+      from_here old (after_cases k calls (drop from groups)) ≡ Goes v (state_of new) (told_of new) (left_of new)
   cases_leave w v new other e = cases_now ∙ then_leaves w v m new (after_items k calls body) (after_cases k calls (drop (i + 1) groups)) other e
 
   pub cases_halt : (h : Halt) (new : Machine) → Halts h new (from_here m (after_items k calls body)) → Halts h new (from_here old (after_cases k calls (drop from groups)))

@@ -19,7 +19,8 @@ use Rattle.joint_ir.specs.declared.stmt.SNode.{Return}
 use Rattle.joint_ir.specs.declared.stmt.TStmt.{TStmt}
 use Rattle.joint_ir.specs.declared.stmt.TTarget.{TTarget}
 use Rattle.joint_ir.specs.Types.{IsType, Single}
-use Rattle.joint_ir.specs.Effects.{Effect, Onward, nothing, Goes, Next}
+use Rattle.joint_ir.specs.Effects.{Effect, Onward, nothing, Goes}
+use Rattle.joint_ir.specs.declared.way.Way.TheVariants.{Next}
 use Rattle.joint_ir.specs.Steps.{Setting, Calls, store_effect, store_at, with_init, with_index, within_bounds, slot_type, type_or_int, result_of, declare_effect, declare_var, declare_object, declare_array}
 use Rattle.joint_ir.specs.WellFormed.{Scope, FitsExpr, FitsArgs, FitsCall, FitsInit, FitsIndex, FitsTarget, FitsDeclare, FitsObject, FitsElements, FitsBody, FitsReturn, FitsStmt, HasProp, IsWellFormed, scope_of}
 use Rattle.joint_view.specs.declared.halt.Halt.{Halt}

@@ -8,7 +8,8 @@ use Rattle.joint_ir.specs.declared.pair.Pair.{Pair}
 use Rattle.joint_ir.specs.declared.program.Function.{Function}
 use Rattle.joint_ir.specs.declared.stmt.TStmt.{TStmt}
 use Rattle.joint_ir.specs.States.{JointState, Store}
-use Rattle.joint_ir.specs.Effects.{Effect, Onward, Goes, Stops, TooFew, Next}
+use Rattle.joint_ir.specs.Effects.{Effect, Onward, Goes, Stops, TooFew}
+use Rattle.joint_ir.specs.declared.way.Way.TheVariants.{Next}
 use Rattle.joint_ir.specs.Statements.{after, set_params, calls_at}
 use Rattle.joint_ir.specs.WellFormed.{IsWellFormed}
 use Rattle.joint_value.specs.Elements.{part_of, replaced}
@@ -16,9 +17,9 @@ use Rattle.joint_value.specs.Evaluable.{KeepsTypes}
 use Rattle.joint_view.specs.Halts.{unmeasured}
 use Rattle.joint_view.specs.declared.halt.Halt.{Halt}
 use Rattle.joint_machine.specs.declared.machine.Machine.{Machine}
-use Rattle.joint_machine.specs.declared.machine.Way.{Way}
-use Rattle.joint_machine.specs.declared.machine.Way.TheVariants as way_to
-use Rattle.joint_machine.specs.Moments.{state_of, left_of, told_of, way_of, IsReady, from_here}
+use Rattle.joint_ir.specs.declared.way.Way.{Way}
+use Rattle.joint_ir.specs.declared.way.Way.TheVariants as way_to
+use Rattle.joint_machine.specs.Moments.{state_of, left_of, told_of, IsReady, from_here}
 use Rattle.joint_lists.specs.Own.{own_end, KeepsOthers, GoesWith, Keeps}
 use Rattle.joint_lists.proofs.Keeping.{preceded_keeps, params_keep, own_keeps, params_before}
 use Rattle.joint_step.specs.Parts.{Takes}
@@ -76,7 +77,7 @@ unmeasured_keeps P (Stops o told c) h = tt
 unmeasured_keeps P TooFew h = tt
 
 went_with : (P : JointState → Type 0) (w : Way) (old new : Machine) (f : Onward) → Keeps P f → P (state_of old) →
-    from_here old f ≡ Goes (way_of w) (state_of new) (told_of new) (left_of new) → P (state_of new)
+    from_here old f ≡ Goes w (state_of new) (told_of new) (left_of new) → P (state_of new)
 went_with P w old new f keeps h is =
     subst (λ (e : Effect). GoesWith P e) is
     (preceded_keeps P (told_of old) (unmeasured (f (state_of old) (left_of old)))
@@ -91,7 +92,7 @@ module _ (p : Pair) (b : Bounds) (w : IsWellFormed p) (f : ℕ) (fn : Function) 
   module _ (line : ℕ) (args : List ℤ) (taken : Takes p.program fn args) (old mid new : Machine) (ready : IsReady p old)
       (begun : from_here old (set_params line fn.first args) ≡ Goes Next (state_of mid) (told_of mid) (left_of mid))
       (left : ℕ) (standing : List ℕ) (way : Way)
-      (done : from_here mid (after (record { pair = p; bounds = b; here = f }) (calls_at p b left standing) body.place body.node) ≡ Goes (way_of way) (state_of new) (told_of new) (left_of new)) where
+      (done : from_here mid (after (record { pair = p; bounds = b; here = f }) (calls_at p b left standing) body.place body.node) ≡ Goes way (state_of new) (told_of new) (left_of new)) where
     others : KeepsOthers fn.first (own_end fn body) old.store.locals (state_of new)
     others =
         let fits = body_fits p f fn w is body some in

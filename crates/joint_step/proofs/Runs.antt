@@ -11,7 +11,8 @@ use Rattle.joint_ir.specs.declared.module.Role.TheVariants.{Input, Register}
 use Rattle.joint_ir.specs.declared.pair.Pair.{Pair}
 use Rattle.joint_ir.specs.States.{JointState, first_rows}
 use Rattle.joint_ir.specs.Views.{widths_of, site_widths, filled, shown}
-use Rattle.joint_ir.specs.Effects.{Effect, Onward, nothing, seen, drew, Goes, Stops, TooFew, Next, preceded, then_do, draw, draw_all}
+use Rattle.joint_ir.specs.Effects.{Effect, Onward, nothing, seen, drew, Goes, Stops, TooFew, preceded, then_do, draw, draw_all}
+use Rattle.joint_ir.specs.declared.way.Way.TheVariants.{Next}
 use Rattle.joint_ir.specs.Steps.{settled_view}
 use Rattle.joint_ir.specs.Runs.{draw_registers, with_first_state, main_effect, body_of, ended, run_of}
 use Rattle.joint_ir.specs.WellFormed.{FitsProgram}
@@ -25,7 +26,7 @@ use Rattle.joint_view.specs.declared.steps.Begun.{Begun}
 use Rattle.joint_view.specs.Halts.{HaltsAs, last_events, only_seen, unmeasured}
 use Rattle.joint_view.specs.Moves.{first_state, row_items}
 use Rattle.joint_machine.specs.declared.machine.Machine.{Machine}
-use Rattle.joint_machine.specs.declared.machine.Way.{Way}
+use Rattle.joint_ir.specs.declared.way.Way.{Way}
 use Rattle.joint_machine.specs.Moments.{state_of, left_of, told_of, Halts, Does, from_here}
 use Rattle.joint_machine.proofs.Moves.{IsFilled, preceded_filled, unmeasured_filled}
 use Rattle.joint_machine.proofs.Flow.{unmeasured_law}

@@ -6,8 +6,8 @@ use Rattle.joint_ir.specs.declared.stmt.SNode.{SNode, Update, Break, Continue, A
 use Rattle.joint_ir.specs.Effects.{Effect, with_value}
 use Rattle.joint_ir.specs.Values.{Answer, is_zero}
 use Rattle.joint_machine.specs.Moments.{AreParams}
-use Rattle.joint_machine.specs.declared.machine.Way.{Way}
-use Rattle.joint_machine.specs.declared.machine.Way.TheVariants as way
+use Rattle.joint_ir.specs.declared.way.Way.{Way}
+use Rattle.joint_ir.specs.declared.way.Way.TheVariants as way
 
 -- numbers that a function takes, if it is there
 pub record Takes (p : CProgram) (fn : Function) (args : List ℤ) : Type 0 where

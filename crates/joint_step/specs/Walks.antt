@@ -5,7 +5,7 @@ use Rattle.joint_ir.specs.Steps.{Setting, Calls}
 use Rattle.joint_ir.specs.Statements.{calls_at}
 use Rattle.joint_view.specs.declared.halt.Halt.{Halt}
 use Rattle.joint_machine.specs.declared.machine.Machine.{Machine}
-use Rattle.joint_machine.specs.declared.machine.Way.{Way}
+use Rattle.joint_ir.specs.declared.way.Way.{Way}
 use Rattle.joint_machine.specs.Moments.{Does, Passes, Finds, IsKept, IsReady}
 use Rattle.joint_step.specs.declared.parts.Activation.{Activation}
 

@@ -11,9 +11,9 @@ ghost use Rattle.joint_step.specs.Parts.{turn_left, other_way, is_plain, first_t
 ghost use Rattle.joint_step.specs.Walks.{setting_of, GoesOn};
 
 use joint_ir::{
-    Bounds, CProgram, Function, IntType, Outcome, Pair, SNode, Slot, TInit, TLoop, lookup,
+    Bounds, CProgram, Function, IntType, Outcome, Pair, SNode, Slot, TInit, TLoop, Way, lookup,
 };
-use joint_machine::{Machine, Way};
+use joint_machine::Machine;
 use joint_view::Halt;
 use src_text::Place;
 use std::alloc::Global;

@@ -9,8 +9,8 @@ ghost use Rattle.joint_step.specs.Ends.{IsRun, IsCutOff, IsShort};
 
 use crate::parts::Activation;
 use crate::walk;
-use joint_ir::{ACTIVATIONS, Bounds, Choices, Event, EventList, Outcome, Pair};
-use joint_machine::{Machine, Way, machine};
+use joint_ir::{ACTIVATIONS, Bounds, Choices, Event, EventList, Outcome, Pair, Way};
+use joint_machine::{Machine, machine};
 use joint_value::{Rows, Store};
 use joint_view::{Halt, seen, steps};
 use std::alloc::{AllocError, Global};

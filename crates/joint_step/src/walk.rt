@@ -14,9 +14,11 @@ use crate::parts::{
     Activation, declare_array, elsewhere, first_stops, leaves, left, may_begin, past, refused,
     result_type, simple,
 };
-use joint_ir::{Group, IntType, Outcome, SNode, Slot, TCall, TInit, TLoop, TStmt, TTarget, lookup};
+use joint_ir::{
+    Group, IntType, Outcome, SNode, Slot, TCall, TInit, TLoop, TStmt, TTarget, Way, lookup,
+};
 use joint_lists::{entry, own_end};
-use joint_machine::{Machine, Way};
+use joint_machine::Machine;
 use joint_value::arith;
 use joint_view::Halt;
 use sqlite_items::Boxed;

@@ -7,7 +7,8 @@ use Rattle.joint_ir.specs.declared.module.Role.TheVariants.{Input, Register}
 use Rattle.joint_ir.specs.declared.pair.Pair.{Pair}
 use Rattle.joint_ir.specs.States.{View, JointState, first_rows}
 use Rattle.joint_ir.specs.Views.{widths_of, site_widths, next_registers, filled, driven, changed}
-use Rattle.joint_ir.specs.Effects.{Effect, Goes, Next, Onward, draw_all}
+use Rattle.joint_ir.specs.Effects.{Effect, Goes, Onward, draw_all}
+use Rattle.joint_ir.specs.declared.way.Way.TheVariants.{Next}
 use Rattle.joint_ir.specs.Steps.{Setting, settled_view, set_inputs, clock_edge, at_view}
 use Rattle.joint_ir.specs.Runs.{draw_registers, with_first_state}
 use Rattle.joint_view.specs.declared.halt.Halt.{Halt}

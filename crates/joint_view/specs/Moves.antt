@@ -3,7 +3,8 @@ use Rattle.std.specs.Prelude.{◌≡◌, ℕ, List, [], ◌∷◌, map, drop, �
 use Rattle.std.specs.Global.{Vec}
 use Rattle.joint_ir.specs.declared.pair.Pair.{Pair}
 use Rattle.joint_ir.specs.States.{View, JointState, first_rows}
-use Rattle.joint_ir.specs.Effects.{Effect, Goes, Next}
+use Rattle.joint_ir.specs.Effects.{Effect, Goes}
+use Rattle.joint_ir.specs.declared.way.Way.TheVariants.{Next}
 use Rattle.joint_ir.specs.Steps.{Setting}
 use Rattle.joint_view.specs.Halts.{only_seen, unmeasured}
 use Rattle.joint_view.specs.declared.steps.Begun.{Begun}

@@ -8,7 +8,8 @@ use Rattle.joint_ir.specs.declared.expr.TExpr.{TExpr}
 use Rattle.joint_ir.specs.declared.pair.Pair.{Pair}
 use Rattle.joint_ir.specs.Values.{Answer, Value, Fault, value_of}
 use Rattle.joint_ir.specs.States.{JointState}
-use Rattle.joint_ir.specs.Effects.{Effect, Told, Onward, Goes, Stops, TooFew, Next, Breaking, Continuing, Returning, preceded, then_do, with_value, with_values}
+use Rattle.joint_ir.specs.Effects.{Effect, Told, Onward, Goes, Stops, TooFew, preceded, then_do, with_value, with_values}
+use Rattle.joint_ir.specs.declared.way.Way.TheVariants.{Next, Breaking, Continuing, Returning}
 use Rattle.joint_ir.specs.Steps.{Setting, rows_in, with_index}
 use Rattle.joint_ir.specs.Machine.{Task, Configuration, At, Over, Lacks, onward, given, all_given, index_given, step, behind_break, behind_turn, behind_body}
 use Rattle.nothing_lost.proofs.Ways.{OnlyNext}

@@ -14,7 +14,8 @@ use Rattle.joint_ir.specs.declared.program.PropId.{PropId}
 use Rattle.joint_ir.specs.declared.stmt.TStmt.{TStmt}
 use Rattle.joint_ir.specs.Views.{widths_of, site_widths, shown}
 use Rattle.joint_ir.specs.States.{JointState}
-use Rattle.joint_ir.specs.Effects.{Effect, Told, drew, seen, preceded, Goes, Stops, TooFew, Next, Breaking, Continuing, Returning, draw, draw_all}
+use Rattle.joint_ir.specs.Effects.{Effect, Told, drew, seen, preceded, Goes, Stops, TooFew, draw, draw_all}
+use Rattle.joint_ir.specs.declared.way.Way.TheVariants.{Next, Breaking, Continuing, Returning}
 use Rattle.joint_ir.specs.Steps.{Calls, with_locals}
 use Rattle.joint_ir.specs.Statements.{ACTIVATIONS, set_params, closing, after, after_body, entered_body, entered_function, is_below_limit, no_calls, calls_at, any_result}
 use Rattle.joint_ir.specs.Runs.{draw_registers, body_of, main_effect, ended, run_of}

@@ -20,7 +20,8 @@ use Rattle.joint_ir.specs.declared.stmt.TTarget.{TTarget}
 use Rattle.joint_ir.specs.Types.{converted}
 use Rattle.joint_ir.specs.Values.{Answer, value_of, is_zero}
 use Rattle.joint_ir.specs.States.{JointState}
-use Rattle.joint_ir.specs.Effects.{Effect, Onward, Goes, Stops, TooFew, Next, Breaking, Continuing, Returning, then_do, after_turn, after_groups}
+use Rattle.joint_ir.specs.Effects.{Effect, Onward, Goes, Stops, TooFew, then_do, after_turn, after_groups}
+use Rattle.joint_ir.specs.declared.way.Way.TheVariants.{Next, Breaking, Continuing, Returning}
 use Rattle.joint_ir.specs.Steps.{Setting, Calls, rows_in, call_effect, store_effect, declare_object, declare_var, return_effect, var_type, store_at, limit_of}
 use Rattle.joint_ir.specs.Statements.{condition_value, tested, turns, at_entry, entered, after, after_row, after_other, after_loop, groups_from, after_group, no_calls}
 use Rattle.joint_ir.specs.Machine.{Task, Do, Turn, TurnEnd, BreakEnd, Rest, Configuration, At, onward, enter, call_step, store_step, declare_step, return_step, step, behind_break, behind_body, tasks_of, task_of, turn_tasks, loop_tasks, group_tasks, groups_tasks, entry_tasks, setting_in}

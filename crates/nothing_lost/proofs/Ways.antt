@@ -26,7 +26,9 @@ use Rattle.joint_ir.specs.Types.{converted}
 use Rattle.joint_ir.specs.Values.{Answer, Value, Fault, Rows, binary_value, value_of, is_zero}
 use Rattle.joint_ir.specs.Views.{widths_of, site_widths}
 use Rattle.joint_ir.specs.States.{JointState}
-use Rattle.joint_ir.specs.Effects.{Effect, Told, drew, Onward, Goes, Stops, TooFew, Way, Next, Breaking, Continuing, Returning, preceded, then_do, after_turn, after_groups, check_then, with_value, with_values, draw, draw_all}
+use Rattle.joint_ir.specs.Effects.{Effect, Told, drew, Onward, Goes, Stops, TooFew, preceded, then_do, after_turn, after_groups, check_then, with_value, with_values, draw, draw_all}
+use Rattle.joint_ir.specs.declared.way.Way.{Way}
+use Rattle.joint_ir.specs.declared.way.Way.TheVariants.{Next, Breaking, Continuing, Returning}
 use Rattle.joint_ir.specs.Steps.{Setting, Calls, element_of, rows_in, with_locals, call_effect, with_init, with_index, within_bounds, right_value, store_at, store_effect, update_effect, free_elements, set_elements, declare_object, declare_var, return_effect, set_inputs, clock_edge, next_frame}
 use Rattle.joint_ir.specs.Statements.{tested, turns, loop_effect, at_entry, entered, after, after_row, after_other, after_loop, groups_from, after_group, closing, any_result, set_params, after_body, entered_body, entered_function, is_below_limit, no_calls, calls_at}
 use Rattle.joint_ir.specs.WellFormed.{Scope, is_some, FitsStmt, FitsRow, FitsOther, FitsStep, FitsLoop, FitsGroups, FitsGroup, is_simple, is_declare, all_declare, is_first_part, is_no_row, is_left_out, is_loop, in_a_switch, with_scope_locals}

@@ -12,7 +12,7 @@ use Rattle.joint_ir.specs.declared.stmt.Group.{Group, out-Group}
 use Rattle.joint_ir.specs.Effects.{Effect, Onward, nothing, Goes}
 use Rattle.joint_ir.specs.Steps.{rows_in, limit_of}
 use Rattle.joint_ir.specs.Statements.{after, calls_at}
-use Rattle.joint_machine.specs.Moments.{Passes, Finds, Halts, Stands, from_here, way_of}
+use Rattle.joint_machine.specs.Moments.{Passes, Finds, Halts, Stands, from_here}
 use Rattle.joint_machine.proofs.Flow.{nothing_done}
 use Rattle.joint_lists.specs.Lists.{after_items, after_option, after_cases, entered_case}
 use Rattle.joint_step.specs.Walks.{setting_of, calls_in}
@@ -37,7 +37,8 @@ use Rattle.joint_ir.specs.declared.program.Var.{Var}
 use Rattle.joint_ir.specs.declared.ctype.IntType.{IntType}
 use Rattle.joint_ir.specs.declared.stmt.TInit.{TInit}
 use Rattle.joint_ir.specs.Types.{InRange, IsType, converted}
-use Rattle.joint_ir.specs.Effects.{with_value, with_values, Returning}
+use Rattle.joint_ir.specs.Effects.{with_value, with_values}
+use Rattle.joint_ir.specs.declared.way.Way.TheVariants.{Returning}
 use Rattle.joint_ir.specs.Steps.{slot_type, var_type, with_init, store_at, store_effect, declare_effect, call_effect, first_value, returning}
 use Rattle.joint_ir.specs.Statements.{after_body, any_result, is_below_limit}
 use Rattle.joint_ir.specs.WellFormed.{FitsStmt, FitsExpr, FitsInit}
@@ -638,10 +639,10 @@ enter-returns-in_ok-way-in-Some-body-clause-does t c =
     ap (λ (rows : List (List ℤ)). replaced fn.first rows new.store.locals) (first.saved ∙ ap (λ (n : ℕ). part_of fn.first n old.store.locals) c.own_end-end.ensures)
     ∙ call_restored p b c.requires.well f fn some body c.in-Some-body.is c.args.place.line c.args.args.now (c.requires.args fn some) old mid new c.requires.ready first.does (a.left - 1) (st' ++ f ∷ []) w (c.in_ok-way-in-Some-body.ensures.does (st' ++ f ∷ []) first.standing) in
     λ st is. passes_after c.leave.result old new c.leave.new.self (calls_at p b a.left st c.args.place f c.args.args.now)
-    (λ s c'. after_body (eqb f p.program.main) fn.result (replaced fn.first saved new.store.locals) (Goes (way_of w) s nothing c'))
+    (λ s c'. after_body (eqb f p.program.main) fn.result (replaced fn.first saved new.store.locals) (Goes w s nothing c'))
     (ap (from_here old) (calls_entered p b f c.args.place c.args.args.now fn a.left st some body c.in-Some-body.is (ap (λ (l : List ℕ). may_stand a.left (is_below_limit p b l f fn)) (sym is) ∙ sym c.may_begin.ensures ∙ c.if-not-may_begin.false))
     ∙ going_done p b (calls_at p b (a.left - 1) (st ++ f ∷ [])) f fn body c.args.place c.args.args.now old c.begin.new.self c.in_ok-saved-in-Some-body.ensures.does w new (c.in_ok-way-in-Some-body.ensures.does (st ++ f ∷ []) (c.in_ok-saved-in-Some-body.ensures.standing ∙ ap (λ (l : List ℕ). l ++ f ∷ []) is))
-    ∙ ap (λ (rows : List (List ℤ)). from_here new (λ s c'. after_body (eqb f p.program.main) fn.result rows (Goes (way_of w) s nothing c'))) (sym same))
+    ∙ ap (λ (rows : List (List ℤ)). from_here new (λ s c'. after_body (eqb f p.program.main) fn.result rows (Goes w s nothing c'))) (sym same))
     c.leave.ensures.does
 
 pub statement-block-requires : goal.statement-block-requires

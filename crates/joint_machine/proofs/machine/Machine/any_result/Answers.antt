@@ -3,7 +3,8 @@ use Rattle.std.proofs.lemmas.Int.{to_z-of_z}
 use Rattle.std.proofs.lemmas.Result.{err_from_is_err_and}
 use mir.Val.{SFits}
 use mir.Syntax.{w128}
-use Rattle.joint_ir.specs.Effects.{nothing, Goes, Next}
+use Rattle.joint_ir.specs.Effects.{nothing, Goes}
+use Rattle.joint_ir.specs.declared.way.Way.TheVariants.{Next}
 use Rattle.joint_ir.specs.Steps.{returning}
 use Rattle.joint_machine.proofs.Flow.{returned_done}
 use Rattle.joint_machine.proofs.machine.Machine.any_result.Goals as goal
