@@ -203,12 +203,12 @@ fn role_bits(role: Role, signal: &Signal) -> u64
 }
 
 /// The bits of all signals of a role.
-pub fn bits_of_role(module: &FlatModule, role: Role) -> u64
-    ensures value { result ≡ capped_of (sum_by (role_bits_of role) module.now.signals) }
+pub fn bits_of_role(flat: &FlatModule, role: Role) -> u64
+    ensures value { result ≡ capped_of (sum_by (role_bits_of role) flat.now.signals) }
     ensures bound { result ≤ 16777217 }
 {
     let mut total = 0;
-    for signal in module.signals.as_slice() {
+    for signal in flat.signals.as_slice() {
         total = capped(total + role_bits(role, signal));
     }
     total
