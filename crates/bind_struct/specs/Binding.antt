@@ -48,6 +48,7 @@ struct_fault None = Some BNoSignal
 struct_fault (Some Instance) = None
 struct_fault (Some (Signal j)) = Some BShape
 
+-- a member of an integer type, or a struct, against what its path names
 abbrev pub member_fault_of : FlatModule → Member → Option IntType → Option Thing → Option Kind
 member_fault_of m x None thing = struct_fault thing
 member_fault_of m x (Some t) thing = integer_fault m x t thing
@@ -57,10 +58,12 @@ member_fault_of m x (Some t) thing = integer_fault m x t thing
 abbrev pub member_fault : FlatModule → Naming → Member → Option Kind
 member_fault m paths x = member_fault_of m x x.ty (paths x.path)
 
+-- a fault as the offences at a place
 abbrev pub at_fault : Place → Option Kind → List Offence
 at_fault p None = []
 at_fault p (Some k) = at p k
 
+-- the offences of a member
 abbrev pub member_offences : FlatModule → Naming → Member → List Offence
 member_offences m paths x = at_fault x.place (member_fault m paths x)
 
@@ -70,51 +73,61 @@ thing_link i None = []
 thing_link i (Some Instance) = []
 thing_link i (Some (Signal j)) = (record { member = number_of i; signal = number_of j }) ∷ []
 
+-- the same of a member of a type; a struct has none
 abbrev pub link_of : Naming → ℕ → Member → Option IntType → List Link
 link_of paths i x None = []
 link_of paths i x (Some t) = thing_link i (paths x.path)
 
+-- a link that may be missing, as a list
 abbrev pub linked : Option Link → List Link
 linked None = []
 linked (Some link) = link ∷ []
 
+-- the links of members, of which the first has a place
 abbrev pub links_from : Naming → ℕ → List Member → List Link
 links_from paths i [] = []
 links_from paths i (x ∷ members) = link_of paths i x x.ty ++ links_from paths (i + 1) members
 
--- an assignment to a signal, which must be an input other than the clock
+-- an input other than the clock
 abbrev pub is_input : Role → Bool
 is_input role.Input = true
 is_input role.Clock = false
 is_input role.Register = false
 is_input role.Wire = false
 
+-- an assignment to a signal, which must be an input other than the clock
 abbrev pub signal_stored : Place → Option ASignal → List Offence
 signal_stored p None = []
 signal_stored p (Some s) = if is_input s.role then [] else at p BNotInput
 
+-- an assignment to what a path names; the other offences of such a path are those of its member
 abbrev pub thing_stored : FlatModule → Place → Option Thing → List Offence
 thing_stored m p None = []
 thing_stored m p (Some Instance) = []
 thing_stored m p (Some (Signal j)) = signal_stored p (slice_get m.signals j)
 
+-- an assignment to a member
 abbrev pub member_stored : FlatModule → Naming → Place → Option Member → List Offence
 member_stored m paths p None = []
 member_stored m paths p (Some x) = thing_stored m p (paths x.path)
 
+-- an assignment to an object: only a member of the mirror can offend
 abbrev pub slot_stored : FlatModule → Naming → List Member → Place → Slot → List Offence
 slot_stored m paths members p (slot.Global i) = []
 slot_stored m paths members p (slot.Local i) = []
 slot_stored m paths members p (slot.Member i) = member_stored m paths p (slice_get members i)
 slot_stored m paths members p slot.BoundValue = []
 
+-- an assignment to a target
 abbrev pub target_stored : FlatModule → Naming → List Member → TTarget → List Offence
 target_stored m paths members t = slot_stored m paths members t.place t.slot
 
+-- what the stores in a body offend against, by what one store does
 abbrev pub body_stored : (TTarget → List Offence) → Option TStmt → List Offence
 body_stored f None = []
 body_stored f (Some body) = stored_in f body.node
 
+-- the same of functions, in order
 abbrev pub functions_stored : (TTarget → List Offence) → List Function → List Offence
 functions_stored f [] = []
 functions_stored f (fn ∷ fns) = body_stored f fn.body ++ functions_stored f fns
@@ -124,6 +137,7 @@ abbrev pub first_below : CProgram → FlatModule → Naming → List Member → 
 first_below p m paths members =
     option_or (leading (map (member_offences m paths) members)) (first_of None (functions_stored (target_stored m paths members) p.functions))
 
+-- the mirror is named as the top module
 abbrev pub name_offences : MirrorDecl → FlatModule → List Offence
 name_offences d m = if bytes_eq d.name m.top then [] else at d.place BNotTop
 
@@ -132,16 +146,20 @@ abbrev pub mirror_groups : CProgram → FlatModule → MirrorDecl → List (List
 mirror_groups p m d =
     name_offences d m ∷ (map (member_offences m (paths_of m)) d.members ++ functions_stored (target_stored m (paths_of m) d.members) p.functions ∷ [])
 
+-- the groups of offences of a mirror, if there is one
 abbrev pub groups_of : CProgram → FlatModule → Option MirrorDecl → List (List Offence)
 groups_of p m None = []
 groups_of p m (Some d) = mirror_groups p m d
 
+-- what is wrong between a program and a module, in groups of which the first that is not empty counts
 abbrev pub binding_groups : CProgram → FlatModule → List (List Offence)
 binding_groups p m = groups_of p m p.mirror
 
+-- the links of a mirror, if there is one
 abbrev pub links_of : FlatModule → Option MirrorDecl → List Link
 links_of m None = []
 links_of m (Some d) = links_from (paths_of m) 0 d.members
 
+-- what binds a program to a module, where nothing is wrong
 abbrev pub binding_of : CProgram → FlatModule → Binding
 binding_of p m = record { links = links_of m p.mirror }

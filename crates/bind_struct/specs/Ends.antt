@@ -11,6 +11,7 @@ use Rattle.bind_struct.specs.declared.ends.BindEnd.TheVariants.{Refused, Memory}
 abbrev pub refusal_of : Offence → Refusal
 refusal_of o = record { lang = C; place = o.place; kind = o.kind }
 
+-- the end for want of memory
 abbrev pub IsMemory : BindEnd → Type 0
 IsMemory Memory = Unit {0}
 IsMemory (Refused r) = ⊥

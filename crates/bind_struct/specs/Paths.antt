@@ -5,9 +5,11 @@ use Rattle.joint_ir.specs.declared.module.Signal.{Signal as ASignal}
 use Rattle.bind_struct.specs.declared.paths.Thing.{Thing}
 use Rattle.bind_struct.specs.declared.paths.Thing.TheVariants.{Signal, Instance}
 
+-- what paths name, if anything
 abbrev pub Naming : Type 0
 Naming = List ℕ → Option Thing
 
+-- no path names anything
 abbrev pub nothing : Naming
 nothing path = None
 
@@ -20,6 +22,7 @@ named (e ∷ es) path = if bytes_eq path e.0 then Some e.1 else named es path
 abbrev pub with_path : List ℕ → Thing → Naming → Naming
 with_path name thing others path = if bytes_eq path name then Some thing else others path
 
+-- the paths of instances
 abbrev pub instance_paths : List (List ℕ) → Naming
 instance_paths [] = nothing
 instance_paths (name ∷ rest) = with_path name Instance (instance_paths rest)
@@ -29,5 +32,6 @@ abbrev pub signal_paths : ℕ → List ASignal → Naming → Naming
 signal_paths i [] others = others
 signal_paths i (s ∷ signals) others = with_path s.path (Signal i) (signal_paths (i + 1) signals others)
 
+-- a module's paths: its signals', and then its instances'
 abbrev pub paths_of : FlatModule → Naming
 paths_of m = signal_paths 0 m.signals (instance_paths m.instances)

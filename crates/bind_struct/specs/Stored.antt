@@ -44,15 +44,17 @@ abbrev mutual
   pub stored_group : (TTarget → List Offence) → Group → List Offence
   stored_group f (Group' labels _ row) = stored_row f row
 
--- the same of lists, and of a statement that may be left out
+-- the same of lists
 abbrev pub stored_items : (TTarget → List Offence) → List TStmt → List Offence
 stored_items f [] = []
 stored_items f (s ∷ items) = stored_in f s.node ++ stored_items f items
 
+-- of a statement that may be left out
 abbrev pub stored_option : (TTarget → List Offence) → Option TStmt → List Offence
 stored_option f None = []
 stored_option f (Some s) = stored_in f s.node
 
+-- of the groups of a switch
 abbrev pub stored_cases : (TTarget → List Offence) → List Group → List Offence
 stored_cases f [] = []
 stored_cases f (g ∷ groups) = stored_items f (out-Group g).body ++ stored_cases f groups

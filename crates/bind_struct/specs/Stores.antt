@@ -6,5 +6,6 @@ use Rattle.bind_struct.specs.declared.stores.Stores.{Stores}
 use Rattle.bind_struct.specs.Paths.{named}
 use Rattle.bind_struct.specs.Binding.{target_stored}
 
+-- the offences of one store, by what is looked at
 abbrev pub stores_of : Stores → TTarget → List Offence
 stores_of s t = target_stored s.module.now (named s.paths.now) s.members.now t

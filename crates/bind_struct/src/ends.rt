@@ -30,11 +30,11 @@ pub fn refused(place: Place, kind: Kind) -> BindEnd
 }
 
 /// What the paths of a module name.
-pub fn paths_named(alloc: Global, module: &FlatModule) -> Result<Paths, BindEnd>
-    ensures ok { IfOk result (λ p. named_in p ≡ paths_in module.now) }
+pub fn paths_named(alloc: Global, flat: &FlatModule) -> Result<Paths, BindEnd>
+    ensures ok { IfOk result (λ p. named_in p ≡ paths_in flat.now) }
     ensures err { IfErr result IsMemory }
 {
-    match paths_of(alloc, module) {
+    match paths_of(alloc, flat) {
         Ok(paths) => Ok(paths),
         Err(_) => Err(BindEnd::Memory),
     }

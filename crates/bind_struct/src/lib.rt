@@ -27,23 +27,23 @@ use src_text::Kind;
 use std::alloc::Global;
 
 /// Whether the mirror is named as the top module is.
-fn is_top(mirror: &MirrorDecl, module: &FlatModule) -> bool
-    ensures { result ≡ bytes_eq mirror.now.name module.now.top }
+fn is_top(mirror: &MirrorDecl, flat: &FlatModule) -> bool
+    ensures { result ≡ bytes_eq mirror.now.name flat.now.top }
 {
-    mirror.name.text() == module.top.text()
+    mirror.name.text() == flat.top.text()
 }
 
 /// What is wrong first with what is assigned.
 fn stored(
     program: &CProgram,
-    module: &FlatModule,
+    flat: &FlatModule,
     paths: &Paths,
     members: &[Member],
 ) -> Option<Offence>
-    ensures { result ≡ first_of None (functions_stored (target_stored module.now (named paths.now) members.now) program.now.functions) }
+    ensures { result ≡ first_of None (functions_stored (target_stored flat.now (named paths.now) members.now) program.now.functions) }
 {
     let at = Stores {
-        module,
+        module: flat,
         paths,
         members,
     };
@@ -56,17 +56,17 @@ fn stored(
 fn member_links(
     alloc: Global,
     program: &CProgram,
-    module: &FlatModule,
+    flat: &FlatModule,
     paths: &Paths,
     members: &[Member],
 ) -> Result<LinkList, BindEnd>
     ensures links { IfOk result (λ l. l ≡ links_from (named paths.now) 0 members.now) }
-    ensures clean { OnOk result (first_below program.now module.now (named paths.now) members.now ≡ None) }
-    ensures refused { IfErr result (IsEndOf (first_below program.now module.now (named paths.now) members.now)) }
+    ensures clean { OnOk result (first_below program.now flat.now (named paths.now) members.now ≡ None) }
+    ensures refused { IfErr result (IsEndOf (first_below program.now flat.now (named paths.now) members.now)) }
 {
-    match links(alloc, module, paths, members) {
+    match links(alloc, flat, paths, members) {
         Err(end) => Err(end),
-        Ok(links) => match stored(program, module, paths, members) {
+        Ok(links) => match stored(program, flat, paths, members) {
             None => Ok(links),
             Some(offence) => Err(refused(offence.place, offence.kind)),
         },
@@ -77,34 +77,34 @@ fn member_links(
 fn mirror_links(
     alloc: Global,
     program: &CProgram,
-    module: &FlatModule,
+    flat: &FlatModule,
     mirror: &MirrorDecl,
 ) -> Result<LinkList, BindEnd>
-    ensures links { IfOk result (λ l. l ≡ links_from (paths_in module.now) 0 mirror.now.members) }
-    ensures clean { OnOk result (leading (mirror_groups program.now module.now mirror.now) ≡ None) }
-    ensures refused { IfErr result (IsEndOf (leading (mirror_groups program.now module.now mirror.now))) }
+    ensures links { IfOk result (λ l. l ≡ links_from (paths_in flat.now) 0 mirror.now.members) }
+    ensures clean { OnOk result (leading (mirror_groups program.now flat.now mirror.now) ≡ None) }
+    ensures refused { IfErr result (IsEndOf (leading (mirror_groups program.now flat.now mirror.now))) }
 {
-    if !is_top(mirror, module) {
+    if !is_top(mirror, flat) {
         return Err(refused(mirror.place, Kind::BNotTop));
     }
-    match paths_named(alloc, module) {
+    match paths_named(alloc, flat) {
         Err(end) => Err(end),
-        Ok(paths) => member_links(alloc, program, module, &paths, mirror.members.as_slice()),
+        Ok(paths) => member_links(alloc, program, flat, &paths, mirror.members.as_slice()),
     }
 }
 
 /// What binds the mirror of a program to a module: a link for each member that is no struct, in the order of the members.
 /// It refuses what is wrong first: the mirror's name (90), then member by member (91 to 93), then what is assigned (94).
-pub fn bind(alloc: Global, program: &CProgram, module: &FlatModule) -> Result<Binding, BindEnd>
-    ensures bound { IfOk result (λ b. b ≡ binding_of program.now module.now) }
-    ensures clean { OnOk result (All (λ group. group ≡ []) (binding_groups program.now module.now)) }
-    ensures refused { IfErr result (IsEnd (binding_groups program.now module.now)) }
+pub fn bind(alloc: Global, program: &CProgram, flat: &FlatModule) -> Result<Binding, BindEnd>
+    ensures bound { IfOk result (λ b. b ≡ binding_of program.now flat.now) }
+    ensures clean { OnOk result (All (λ group. group ≡ []) (binding_groups program.now flat.now)) }
+    ensures refused { IfErr result (IsEnd (binding_groups program.now flat.now)) }
 {
     match &program.mirror {
         None => Ok(Binding {
             links: Items::new(alloc),
         }),
-        Some(mirror) => match mirror_links(alloc, program, module, mirror) {
+        Some(mirror) => match mirror_links(alloc, program, flat, mirror) {
             Ok(links) => Ok(Binding { links }),
             Err(end) => Err(end),
         },

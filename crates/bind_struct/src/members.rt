@@ -40,17 +40,17 @@ fn signal_fault(member: &Member, ty: IntType, signal: Option<&Signal>) -> Option
 }
 
 fn integer_fault(
-    module: &FlatModule,
+    flat: &FlatModule,
     member: &Member,
     ty: IntType,
     thing: Option<Thing>,
 ) -> Option<Kind>
-    ensures { result ≡ integer_fault_of module.now member.now ty thing }
+    ensures { result ≡ integer_fault_of flat.now member.now ty thing }
 {
     match thing {
         None => Some(Kind::BNoSignal),
         Some(Thing::Instance) => Some(Kind::BShape),
-        Some(Thing::Signal(j)) => signal_fault(member, ty, module.signals.get(j)),
+        Some(Thing::Signal(j)) => signal_fault(member, ty, flat.signals.get(j)),
     }
 }
 
@@ -65,13 +65,13 @@ fn struct_fault(thing: Option<Thing>) -> Option<Kind>
 }
 
 /// What is wrong with a member.
-fn member_fault(module: &FlatModule, paths: &Paths, member: &Member) -> Option<Kind>
-    ensures { result ≡ member_fault_in module.now (named paths.now) member.now }
+fn member_fault(flat: &FlatModule, paths: &Paths, member: &Member) -> Option<Kind>
+    ensures { result ≡ member_fault_in flat.now (named paths.now) member.now }
 {
     let thing = paths.find(&member.path);
     match member.ty {
         None => struct_fault(thing),
-        Some(ty) => integer_fault(module, member, ty, thing),
+        Some(ty) => integer_fault(flat, member, ty, thing),
     }
 }
 
@@ -108,17 +108,17 @@ fn add_link(links: &mut LinkList, paths: &Paths, i: usize, member: &Member) -> R
 /// The links of the members, or what is wrong with the first of them that is wrong.
 pub fn links(
     alloc: Global,
-    module: &FlatModule,
+    flat: &FlatModule,
     paths: &Paths,
     members: &[Member],
 ) -> Result<LinkList, BindEnd>
     ensures links { IfOk result (λ l. l ≡ links_from (named paths.now) 0 members.now) }
-    ensures clean { OnOk result (leading (map (member_offences module.now (named paths.now)) members.now) ≡ None) }
-    ensures refused { IfErr result (IsEndOf (leading (map (member_offences module.now (named paths.now)) members.now))) }
+    ensures clean { OnOk result (leading (map (member_offences flat.now (named paths.now)) members.now) ≡ None) }
+    ensures refused { IfErr result (IsEndOf (leading (map (member_offences flat.now (named paths.now)) members.now))) }
 {
     let mut links = Items::new(alloc);
     for (i, member) in members.iter().enumerate() {
-        if let Some(kind) = member_fault(module, paths, member) {
+        if let Some(kind) = member_fault(flat, paths, member) {
             return Err(refused(member.place, kind));
         }
         add_link(&mut links, paths, i, member)?;

@@ -61,17 +61,17 @@ impl Paths {
 }
 
 /// What the paths of a module name.
-pub fn paths_of(alloc: Global, module: &FlatModule) -> Result<Paths, AllocError>
-    ensures { IfOk result (λ p. named p ≡ paths_in module.now) }
+pub fn paths_of(alloc: Global, flat: &FlatModule) -> Result<Paths, AllocError>
+    ensures { IfOk result (λ p. named p ≡ paths_in flat.now) }
 {
     let mut paths = Paths::new(alloc);
-    let instances = module.instances.as_slice();
+    let instances = flat.instances.as_slice();
     let mut i = instances.len();
     while i > 0 {
         i -= 1;
         paths.put(&instances[i], Thing::Instance)?;
     }
-    let signals = module.signals.as_slice();
+    let signals = flat.signals.as_slice();
     let mut i = signals.len();
     while i > 0 {
         i -= 1;

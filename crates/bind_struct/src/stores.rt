@@ -35,26 +35,26 @@ fn note_signal(first: &mut First, place: Place, signal: Option<&Signal>)
     }
 }
 
-fn note_thing(module: &FlatModule, first: &mut First, place: Place, thing: Option<Thing>)
-    ensures { first.new.found ≡ first_of first.old.found (thing_stored module.now place thing) }
+fn note_thing(flat: &FlatModule, first: &mut First, place: Place, thing: Option<Thing>)
+    ensures { first.new.found ≡ first_of first.old.found (thing_stored flat.now place thing) }
 {
     match thing {
-        Some(Thing::Signal(j)) => note_signal(first, place, module.signals.get(j)),
+        Some(Thing::Signal(j)) => note_signal(first, place, flat.signals.get(j)),
         _ => {}
     }
 }
 
 fn note_member(
-    module: &FlatModule,
+    flat: &FlatModule,
     paths: &Paths,
     first: &mut First,
     place: Place,
     member: Option<&Member>,
 )
-    ensures { first.new.found ≡ first_of first.old.found (member_stored module.now (named paths.now) place (option_copied member.entry)) }
+    ensures { first.new.found ≡ first_of first.old.found (member_stored flat.now (named paths.now) place (option_copied member.entry)) }
 {
     if let Some(member) = member {
-        note_thing(module, first, place, paths.find(&member.path));
+        note_thing(flat, first, place, paths.find(&member.path));
     }
 }
 

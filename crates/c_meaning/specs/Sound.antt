@@ -22,6 +22,7 @@ pub record IsThere (c : well.Scope) (o : Target) : Type 0 where
   pub length : slot_length c.program o.slot ≡ o.length
   pub type : IsType o.ty
 
+-- each name that stands for an object, stands for one that is there
 abbrev pub AreThere : well.Scope → List Scope → Type 0
 AreThere c env = (name : List ℕ) (o : Target) → lookup env name ≡ Some (entry.Object o) → IsThere c o
 

@@ -41,6 +41,7 @@ binary_row binary.Multiply w v = 11 * (w * w)
 binary_row binary.Divide w v = 16 * (w * w) + 80 * w + 8 * w
 binary_row binary.Remainder w v = 16 * (w * w) + 80 * w + 8 * w
 
+-- the row of a unary operator, by the width of its operand; turning bits round costs no gate
 abbrev pub unary_row : UnaryOp → ℕ → ℕ
 unary_row unary.Plus w = 0
 unary_row unary.Minus w = 10 * w
@@ -61,6 +62,7 @@ left_width Comparing w a b = max a b
 left_width Logical w a b = a
 left_width Shifting w a b = w
 
+-- the same for the right operand
 abbrev pub right_width : Form → ℕ → ℕ → ℕ → ℕ
 right_width InContext w a b = w
 right_width Dividing w a b = w
@@ -84,6 +86,7 @@ word_row sure l w v = l * (v + 2 * w) + (if sure then 0 else 20 * v + 8 * w)
 abbrev pub bits_row : ℕ → ℕ → ℕ → Meant → ℕ
 bits_row n w lowest i = select_row (own_fixed i) (is_sure (λ at. are_inside n w (at -ℤ pos lowest)) i) w i.length n
 
+-- a select by one index: a word of a memory, or a bit of a vector
 abbrev pub index_row : Shape → Meant → ℕ
 index_row s i = if nat_lt 0 s.words then word_row (is_sure (is_word s.words) i) s.words s.bits i.length else bits_row 1 s.bits s.low i
 

@@ -23,6 +23,7 @@ pub data Form : Type 0 where
   -- the left one from the context, the amount by itself
   Shifting : Form
 
+-- how the operands of each binary operator get their width and sign (Table 5-22, 5.5.1)
 abbrev pub form_of : BinaryOp → Form
 form_of binary.LogicalOr = Logical
 form_of binary.LogicalAnd = Logical
@@ -62,6 +63,7 @@ signed_by Comparing a b = false
 signed_by Logical a b = false
 signed_by Shifting a b = a
 
+-- a number is true unless it is 0 (5.1.9)
 abbrev pub truth : ℕ → Bool
 truth n = nat_lt 0 n
 
@@ -69,6 +71,7 @@ truth n = nat_lt 0 n
 abbrev pub turned : ℕ → ℕ
 turned n = 1 - n
 
+-- the relation, quotient, remainder and arithmetic shift of numbers of w bits: signed, or not (5.1.5, 5.1.7, 5.1.12)
 abbrev pub less : Bool → ℕ → ℕ → ℕ → ℕ
 less true w a b = value2 two.LtS w a b
 less false w a b = value2 two.LtU w a b

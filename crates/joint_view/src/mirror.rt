@@ -52,17 +52,17 @@ fn push_row(alloc: Global, rows: &mut SignalWords, numbers: &[u64]) -> Result<()
 /// The words of each signal, in flat order; the clock's is 0.
 pub fn signal_words(
     alloc: Global,
-    module: &FlatModule,
+    flat: &FlatModule,
     view: &View,
 ) -> Result<SignalWords, AllocError>
-    ensures words { IfOk result (λ words. words ≡ view_words module.now view.now) }
+    ensures words { IfOk result (λ words. words ≡ view_words flat.now view.now) }
     ensures few { IfOk result (λ words. All (λ (row : List ℕ). length row < 2 ^ 32) words) }
 {
     let mut rows = SignalWords::new(alloc);
     let mut registers = view.registers();
     let mut inputs = view.inputs();
     let mut wires = view.wires();
-    for signal in module.signals.as_slice() {
+    for signal in flat.signals.as_slice() {
         match signal.role {
             Role::Clock => push_row(alloc, &mut rows, &[0])?,
             Role::Input => {

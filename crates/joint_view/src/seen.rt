@@ -49,12 +49,12 @@ fn all_shown(alloc: Global, signals: &[Signal], words: &[Numbers]) -> Result<Sho
 }
 
 /// All words of all signals but the clock, in flat order.
-pub fn shown(alloc: Global, module: &FlatModule, view: &View) -> Result<ShownList, AllocError>
-    requires { length module.now.signals < 2 ^ 32 }
-    ensures { IfOk result (λ list. list ≡ shown_of module.now view.now) }
+pub fn shown(alloc: Global, flat: &FlatModule, view: &View) -> Result<ShownList, AllocError>
+    requires { length flat.now.signals < 2 ^ 32 }
+    ensures { IfOk result (λ list. list ≡ shown_of flat.now view.now) }
 {
-    let words = mirror::signal_words(alloc, module, view)?;
-    all_shown(alloc, module.signals.as_slice(), words.as_slice())
+    let words = mirror::signal_words(alloc, flat, view)?;
+    all_shown(alloc, flat.signals.as_slice(), words.as_slice())
 }
 
 /// Those of the second list whose value isn't that of the first at the same place.
@@ -73,14 +73,14 @@ fn changes(alloc: Global, before: &[Shown], after: &[Shown]) -> Result<ShownList
 /// What a view shows that the one before it doesn't.
 pub fn changed(
     alloc: Global,
-    module: &FlatModule,
+    flat: &FlatModule,
     before: &View,
     after: &View,
 ) -> Result<ShownList, AllocError>
-    requires { length module.now.signals < 2 ^ 32 }
-    ensures { IfOk result (λ list. list ≡ changed_of module.now before.now after.now) }
+    requires { length flat.now.signals < 2 ^ 32 }
+    ensures { IfOk result (λ list. list ≡ changed_of flat.now before.now after.now) }
 {
-    let old = shown(alloc, module, before)?;
-    let new = shown(alloc, module, after)?;
+    let old = shown(alloc, flat, before)?;
+    let new = shown(alloc, flat, after)?;
     changes(alloc, old.as_slice(), new.as_slice())
 }

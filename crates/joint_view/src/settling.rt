@@ -124,40 +124,35 @@ fn edge_numbers(alloc: Global, view: &View, unknown: &[u64]) -> Result<Numbers, 
 /// The wires that settle, given the words of the registers, of the inputs and the unknown words.
 pub fn settled(
     alloc: Global,
-    module: &FlatModule,
+    flat: &FlatModule,
     registers: &[u64],
     inputs: &[u64],
     unknown: &[u64],
 ) -> Result<Numbers, AllocError>
-    requires fits { FitsModule module.now }
-    requires registers { AreWords (widths_of register module.now.signals) registers.now }
-    requires inputs { AreWords (widths_of input module.now.signals) inputs.now }
-    requires unknown { AreWords (site_widths module.now.settle_sites) unknown.now }
-    ensures value { IfOk result (λ ws. ws ≡ settled_wires module.now registers.now inputs.now unknown.now) }
-    ensures words { IfOk result (λ ws. AreWords (widths_of wire module.now.signals) ws) }
+    requires fits { FitsModule flat.now }
+    requires registers { AreWords (widths_of register flat.now.signals) registers.now }
+    requires inputs { AreWords (widths_of input flat.now.signals) inputs.now }
+    requires unknown { AreWords (site_widths flat.now.settle_sites) unknown.now }
+    ensures value { IfOk result (λ ws. ws ≡ settled_wires flat.now registers.now inputs.now unknown.now) }
+    ensures words { IfOk result (λ ws. AreWords (widths_of wire flat.now.signals) ws) }
 {
     let numbers = settle_numbers(alloc, registers, inputs, unknown)?;
-    term_numbers(
-        alloc,
-        &module.settle_terms,
-        numbers.as_slice(),
-        &module.settled,
-    )
+    term_numbers(alloc, &flat.settle_terms, numbers.as_slice(), &flat.settled)
 }
 
 /// The register words after a clock edge, given the view before it and the unknown words.
 pub fn next_registers(
     alloc: Global,
-    module: &FlatModule,
+    flat: &FlatModule,
     view: &View,
     unknown: &[u64],
 ) -> Result<Numbers, AllocError>
-    requires fits { FitsModule module.now }
-    requires view { IsView module.now view.now }
-    requires unknown { AreWords (site_widths module.now.edge_sites) unknown.now }
-    ensures value { IfOk result (λ rs. rs ≡ registers_after module.now view.now unknown.now) }
-    ensures words { IfOk result (λ rs. AreWords (widths_of register module.now.signals) rs) }
+    requires fits { FitsModule flat.now }
+    requires view { IsView flat.now view.now }
+    requires unknown { AreWords (site_widths flat.now.edge_sites) unknown.now }
+    ensures value { IfOk result (λ rs. rs ≡ registers_after flat.now view.now unknown.now) }
+    ensures words { IfOk result (λ rs. AreWords (widths_of register flat.now.signals) rs) }
 {
     let numbers = edge_numbers(alloc, view, unknown)?;
-    term_numbers(alloc, &module.edge_terms, numbers.as_slice(), &module.next)
+    term_numbers(alloc, &flat.edge_terms, numbers.as_slice(), &flat.next)
 }

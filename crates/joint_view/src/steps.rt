@@ -44,21 +44,21 @@ pub struct Moved {
 /// A view whose wires have settled.
 fn settled_view(
     alloc: Global,
-    module: &FlatModule,
+    flat: &FlatModule,
     registers: Numbers,
     inputs: Numbers,
     unknown: &[u64],
 ) -> Result<View, AllocError>
-    requires fits { FitsModule module.now }
-    requires registers { AreWords (widths_of register module.now.signals) registers }
-    requires inputs { AreWords (widths_of input module.now.signals) inputs }
-    requires unknown { AreWords (site_widths module.now.settle_sites) unknown.now }
-    ensures value { IfOk result (λ v. v ≡ view_settled module.now registers inputs unknown.now) }
-    ensures proper { IfOk result (λ v. IsView module.now v) }
+    requires fits { FitsModule flat.now }
+    requires registers { AreWords (widths_of register flat.now.signals) registers }
+    requires inputs { AreWords (widths_of input flat.now.signals) inputs }
+    requires unknown { AreWords (site_widths flat.now.settle_sites) unknown.now }
+    ensures value { IfOk result (λ v. v ≡ view_settled flat.now registers inputs unknown.now) }
+    ensures proper { IfOk result (λ v. IsView flat.now v) }
 {
     let wires = settling::settled(
         alloc,
-        module,
+        flat,
         registers.as_slice(),
         inputs.as_slice(),
         unknown,
@@ -67,19 +67,14 @@ fn settled_view(
 }
 
 /// The inputs other than the clock, as they are drawn.
-fn draw_inputs(
-    alloc: Global,
-    module: &FlatModule,
-    choices: &[u64],
-    at: usize,
-) -> Result<Drawn, Halt>
-    requires { FitsModule module.now }
-    ensures drawn { IfOk result (λ d. Draws (draw_all (widths_of input module.now.signals) (drop at choices.now)) d.numbers (drop d.at choices.now)) }
-    ensures halts { IfErr result (λ h. HaltsDraws h (draw_all (widths_of input module.now.signals) (drop at choices.now))) }
-    ensures words { IfOk result (λ d. AreWords (widths_of input module.now.signals) d.numbers) }
+fn draw_inputs(alloc: Global, flat: &FlatModule, choices: &[u64], at: usize) -> Result<Drawn, Halt>
+    requires { FitsModule flat.now }
+    ensures drawn { IfOk result (λ d. Draws (draw_all (widths_of input flat.now.signals) (drop at choices.now)) d.numbers (drop d.at choices.now)) }
+    ensures halts { IfErr result (λ h. HaltsDraws h (draw_all (widths_of input flat.now.signals) (drop at choices.now))) }
+    ensures words { IfOk result (λ d. AreWords (widths_of input flat.now.signals) d.numbers) }
     ensures within { IfOk result (λ d. at ≤ length choices.now → d.at ≤ length choices.now) }
 {
-    let widths = choices::widths_of(alloc, Role::Input, module.signals.as_slice())?;
+    let widths = choices::widths_of(alloc, Role::Input, flat.signals.as_slice())?;
     choices::draw_all(alloc, widths.as_slice(), choices, at)
 }
 
@@ -98,20 +93,20 @@ fn draw_sites(alloc: Global, sites: &[Site], choices: &[u64], at: usize) -> Resu
 /// The registers as a run begins: a first value where there is one, else a draw.
 fn draw_registers(
     alloc: Global,
-    module: &FlatModule,
+    flat: &FlatModule,
     choices: &[u64],
     at: usize,
 ) -> Result<Drawn, Halt>
-    requires { FitsModule module.now }
-    ensures drawn { IfOk result (λ d. Draws (registers_drawn module.now.firsts (widths_of register module.now.signals) (drop at choices.now)) d.numbers (drop d.at choices.now)) }
-    ensures halts { IfErr result (λ h. HaltsDraws h (registers_drawn module.now.firsts (widths_of register module.now.signals) (drop at choices.now))) }
-    ensures words { IfOk result (λ d. AreWords (widths_of register module.now.signals) d.numbers) }
+    requires { FitsModule flat.now }
+    ensures drawn { IfOk result (λ d. Draws (registers_drawn flat.now.firsts (widths_of register flat.now.signals) (drop at choices.now)) d.numbers (drop d.at choices.now)) }
+    ensures halts { IfErr result (λ h. HaltsDraws h (registers_drawn flat.now.firsts (widths_of register flat.now.signals) (drop at choices.now))) }
+    ensures words { IfOk result (λ d. AreWords (widths_of register flat.now.signals) d.numbers) }
     ensures within { IfOk result (λ d. at ≤ length choices.now → d.at ≤ length choices.now) }
 {
-    let widths = choices::widths_of(alloc, Role::Register, module.signals.as_slice())?;
+    let widths = choices::widths_of(alloc, Role::Register, flat.signals.as_slice())?;
     choices::draw_registers(
         alloc,
-        module.firsts.as_slice(),
+        flat.firsts.as_slice(),
         widths.as_slice(),
         choices,
         at,
@@ -127,13 +122,13 @@ pub fn begin(alloc: Global, pair: &Pair, choices: &[u64]) -> Result<Begun, Halt>
     ensures proper { IfOk result (λ b. IsView pair.now.module b.view) }
     ensures within { IfOk result (λ b. b.at ≤ length choices.now) }
 {
-    let module = &pair.module;
-    let registers = draw_registers(alloc, module, choices, 0)?;
-    let inputs = draw_inputs(alloc, module, choices, registers.at)?;
-    let unknown = draw_sites(alloc, module.settle_sites.as_slice(), choices, inputs.at)?;
+    let flat = &pair.module;
+    let registers = draw_registers(alloc, flat, choices, 0)?;
+    let inputs = draw_inputs(alloc, flat, choices, registers.at)?;
+    let unknown = draw_sites(alloc, flat.settle_sites.as_slice(), choices, inputs.at)?;
     let view = settled_view(
         alloc,
-        module,
+        flat,
         registers.numbers,
         inputs.numbers,
         unknown.numbers.as_slice(),
@@ -162,13 +157,13 @@ pub fn set_inputs(
     ensures proper { IfOk result (λ m. IsView pair.now.module m.view) }
     ensures within { IfOk result (λ m. at ≤ length choices.now → m.at ≤ length choices.now) }
 {
-    let module = &pair.module;
-    let unknown = draw_sites(alloc, module.settle_sites.as_slice(), choices, at)?;
+    let flat = &pair.module;
+    let unknown = draw_sites(alloc, flat.settle_sites.as_slice(), choices, at)?;
     let inputs = mirror::driven(alloc, pair, members, view.inputs())?;
     let registers = Numbers::from_slice(alloc, view.registers())?;
-    let new = settled_view(alloc, module, registers, inputs, unknown.numbers.as_slice())?;
+    let new = settled_view(alloc, flat, registers, inputs, unknown.numbers.as_slice())?;
     let members = mirror::filled(alloc, pair, &new)?;
-    let event = Event::Driven(seen::changed(alloc, module, view, &new)?);
+    let event = Event::Driven(seen::changed(alloc, flat, view, &new)?);
     Ok(Moved {
         view: new,
         members,
@@ -195,20 +190,20 @@ fn clock_edge(
     ensures proper { IfOk result (λ m. IsView pair.now.module m.view) }
     ensures within { IfOk result (λ m. at ≤ length choices.now → m.at ≤ length choices.now) }
 {
-    let module = &pair.module;
-    let at_edge = draw_sites(alloc, module.edge_sites.as_slice(), choices, at)?;
-    let inputs = draw_inputs(alloc, module, choices, at_edge.at)?;
-    let unknown = draw_sites(alloc, module.settle_sites.as_slice(), choices, inputs.at)?;
-    let registers = settling::next_registers(alloc, module, view, at_edge.numbers.as_slice())?;
+    let flat = &pair.module;
+    let at_edge = draw_sites(alloc, flat.edge_sites.as_slice(), choices, at)?;
+    let inputs = draw_inputs(alloc, flat, choices, at_edge.at)?;
+    let unknown = draw_sites(alloc, flat.settle_sites.as_slice(), choices, inputs.at)?;
+    let registers = settling::next_registers(alloc, flat, view, at_edge.numbers.as_slice())?;
     let new = settled_view(
         alloc,
-        module,
+        flat,
         registers,
         inputs.numbers,
         unknown.numbers.as_slice(),
     )?;
     let members = mirror::filled(alloc, pair, &new)?;
-    let event = Event::Frame(edges + 1, seen::changed(alloc, module, view, &new)?);
+    let event = Event::Frame(edges + 1, seen::changed(alloc, flat, view, &new)?);
     Ok(Moved {
         view: new,
         members,

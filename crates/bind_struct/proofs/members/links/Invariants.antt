@@ -7,4 +7,4 @@ use Rattle.bind_struct.proofs.members.links.Given as goal
 abbrev pub invariant-loop-i : goal.invariant-loop-i
 invariant-loop-i l =
     (links_from (named l.paths) 0 l.members ≡ l.links ++ links_from (named l.paths) l.i (drop l.i l.members))
-    × (leading (map (member_offences l.module (named l.paths)) l.members) ≡ leading (map (member_offences l.module (named l.paths)) (drop l.i l.members)))
+    × (leading (map (member_offences l.flat (named l.paths)) l.members) ≡ leading (map (member_offences l.flat (named l.paths)) (drop l.i l.members)))

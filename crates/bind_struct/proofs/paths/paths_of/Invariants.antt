@@ -9,7 +9,7 @@ abbrev pub decreases-loop-i : goal.decreases-loop-i
 decreases-loop-i l = l.i
 
 abbrev pub invariant-loop-i-2 : goal.invariant-loop-i-2
-invariant-loop-i-2 l = (l.i ≤ length l.signals) × (named l.paths ≡ signal_paths l.i (drop l.i l.signals) (instance_paths l.module.instances))
+invariant-loop-i-2 l = (l.i ≤ length l.signals) × (named l.paths ≡ signal_paths l.i (drop l.i l.signals) (instance_paths l.flat.instances))
 
 abbrev pub decreases-loop-i-2 : goal.decreases-loop-i-2
 decreases-loop-i-2 l = l.i

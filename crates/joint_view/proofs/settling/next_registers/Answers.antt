@@ -7,14 +7,14 @@ use Rattle.joint_view.proofs.settling.next_registers.Goals as goal
 
 pub term_numbers-requires-clause-vars : goal.term_numbers-requires-clause-vars
 term_numbers-requires-clause-vars c =
-    subst (λ l. AreWords c.args.module.now.edge_terms.vars l) (sym (c.as_slice.ensures ∙ c.in_ok-numbers.ensures))
-    (edge_fits c.args.module.now c.requires.fits c.args.view.now c.args.unknown.now c.requires.view c.requires.unknown)
+    subst (λ l. AreWords c.args.flat.now.edge_terms.vars l) (sym (c.as_slice.ensures ∙ c.in_ok-numbers.ensures))
+    (edge_fits c.args.flat.now c.requires.fits c.args.view.now c.args.unknown.now c.requires.view c.requires.unknown)
 
 pub term_numbers-requires-clause-narrow : goal.term_numbers-requires-clause-narrow
-term_numbers-requires-clause-narrow c = next_narrow c.args.module.now c.requires.fits
+term_numbers-requires-clause-narrow c = next_narrow c.args.flat.now c.requires.fits
 
 pub returns-clause-value : goal.returns-clause-value
 returns-clause-value c =
-    let m = c.args.module.now in
+    let m = c.args.flat.now in
     IfOk-weaker c.term_numbers.result (λ ns. ns ≡ term_numbers m.edge_terms c.as_slice.result.now m.next) _
     (λ ns e. e ∙ ap (λ l. term_numbers m.edge_terms l m.next) (c.as_slice.ensures ∙ c.in_ok-numbers.ensures)) c.term_numbers.ensures.value

@@ -7,14 +7,14 @@ use Rattle.joint_view.proofs.settling.settled.Goals as goal
 
 pub term_numbers-requires-clause-vars : goal.term_numbers-requires-clause-vars
 term_numbers-requires-clause-vars c =
-    subst (λ l. AreWords c.args.module.now.settle_terms.vars l) (sym (c.as_slice.ensures ∙ c.in_ok-numbers.ensures))
-    (settle_fits c.args.module.now c.requires.fits c.args.registers.now c.args.inputs.now c.args.unknown.now c.requires.registers c.requires.inputs c.requires.unknown)
+    subst (λ l. AreWords c.args.flat.now.settle_terms.vars l) (sym (c.as_slice.ensures ∙ c.in_ok-numbers.ensures))
+    (settle_fits c.args.flat.now c.requires.fits c.args.registers.now c.args.inputs.now c.args.unknown.now c.requires.registers c.requires.inputs c.requires.unknown)
 
 pub term_numbers-requires-clause-narrow : goal.term_numbers-requires-clause-narrow
-term_numbers-requires-clause-narrow c = settled_narrow c.args.module.now c.requires.fits
+term_numbers-requires-clause-narrow c = settled_narrow c.args.flat.now c.requires.fits
 
 pub returns-clause-value : goal.returns-clause-value
 returns-clause-value c =
-    let m = c.args.module.now in
+    let m = c.args.flat.now in
     IfOk-weaker c.term_numbers.result (λ ns. ns ≡ term_numbers m.settle_terms c.as_slice.result.now m.settled) _
     (λ ns e. e ∙ ap (λ l. term_numbers m.settle_terms l m.settled) (c.as_slice.ensures ∙ c.in_ok-numbers.ensures)) c.term_numbers.ensures.value

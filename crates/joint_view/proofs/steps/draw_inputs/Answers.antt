@@ -9,4 +9,4 @@ use Rattle.joint_view.proofs.steps.draw_inputs.Goals as goal
 pub draw_all-requires : goal.draw_all-requires
 draw_all-requires c =
     subst (All IsNarrow) (sym (c.as_slice-2.ensures ∙ c.in_ok-widths.ensures.value ∙ ap (widths_of Input) c.as_slice.ensures))
-    (widths_narrow Input c.args.module.now.signals c.requires.signals)
+    (widths_narrow Input c.args.flat.now.signals c.requires.signals)

@@ -9,4 +9,4 @@ use Rattle.joint_view.proofs.steps.draw_registers.Goals as goal
 pub draw_registers-requires-clause-widths : goal.draw_registers-requires-clause-widths
 draw_registers-requires-clause-widths c =
     subst (All IsNarrow) (sym (c.as_slice-3.ensures ∙ c.in_ok-widths.ensures.value ∙ ap (widths_of Register) c.as_slice.ensures))
-    (widths_narrow Register c.args.module.now.signals c.requires.signals)
+    (widths_narrow Register c.args.flat.now.signals c.requires.signals)

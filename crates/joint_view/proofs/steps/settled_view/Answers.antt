@@ -5,7 +5,7 @@ use Rattle.joint_view.proofs.steps.settled_view.Goals as goal
 
 pub returns-clause-value : goal.returns-clause-value
 returns-clause-value c =
-    let m = c.args.module.now in
+    let m = c.args.flat.now in
     let view : List ℕ → View = λ wires. record { registers = c.args.registers; inputs = c.args.inputs; wires = wires } in
     c.new.ensures
     ∙ ap view (c.in_ok-wires.ensures.value
