@@ -1,3 +1,4 @@
+pub mod PlainLimits
 mod Rows
 pub mod Sizes
 pub mod StmtWeights

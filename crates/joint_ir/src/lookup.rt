@@ -1,12 +1,13 @@
 //! Look-ups in a program and in bounds.
 
-ghost use Rattle.std.specs.Prelude.{◌≡◌, ℕ, ◌<◌, ◌^◌, length, slice_get, bytes_eq, false, if◌then◌else◌};
+ghost use Rattle.std.specs.Prelude.{◌≡◌, ℕ, ◌<◌, ◌^◌, length, slice_get, bytes_eq, true, false, if◌then◌else◌};
 ghost use Rattle.joint_ir.specs.Statements.{is_recursion as is_recursion_kind, recursion_prop};
 ghost use Rattle.std.specs.Option.{option_copied};
 ghost use Rattle.joint_ir.specs.Steps.{limit_of, slot_type as type_of, var_type as type_of_var, member_type as type_of_member};
+ghost use Rattle.joint_ir.specs.Weighed.{names_function, HasPlainLimit, HavePlainLimits};
 ghost use Rattle.joint_ir.specs.Weights.{slot_length as length_of, var_length as length_of_var, member_length as length_of_member};
 
-use crate::bounds::Bounds;
+use crate::bounds::{Bounds, Limit};
 use crate::ctype::IntType;
 use crate::expr::Slot;
 use crate::program::{CProgram, Function, Member, Prop, PropId, PropKind, Var};
@@ -73,6 +74,61 @@ pub fn function_limit(bounds: &Bounds, program: &CProgram, function: &Function) 
         return bounds.unwind;
     }
     limit(bounds, recursion(program, function))
+}
+
+/// A limit is of a `recursion` property with the name of a function.
+fn is_limit_of(program: &CProgram, limit: &Limit, function: &Function) -> bool
+    ensures { result ≡ names_function program.now function.now limit.now }
+{
+    match program.props.get(limit.prop.0 as usize) {
+        None => false,
+        Some(prop) => is_recursion_of(prop, function),
+    }
+}
+
+/// Of all limits, those of a function are the ones of a `recursion` property with its name.
+fn is_plain(bounds: &Bounds, program: &CProgram, function: &Function) -> bool
+    requires { length program.now.props < 2 ^ 32 }
+    ensures { result ≡ true → HasPlainLimit program.now bounds.now function.now }
+{
+    let own = recursion(program, function);
+    for limit in bounds.limits.as_slice() {
+        if is_limit_of(program, limit, function) != (limit.prop.0 == own.0) {
+            return false;
+        }
+    }
+    true
+}
+
+/// For each function with a body the limits of it are those of a `recursion` property with its name, so `plain_limit`
+/// needs no search among the properties. It is so in each well-formed program. The properties are searched once for each
+/// function, and where no property has a limit of its own, not at all.
+pub fn are_plain(bounds: &Bounds, program: &CProgram) -> bool
+    requires { length program.now.props < 2 ^ 32 }
+    ensures { result ≡ true → HavePlainLimits program.now bounds.now }
+{
+    if bounds.limits.len() == 0 {
+        return true;
+    }
+    for function in program.functions.as_slice() {
+        if function.body.is_some() && !is_plain(bounds, program, function) {
+            return false;
+        }
+    }
+    true
+}
+
+/// The limit of a function as `function_limit` tells it, in a time that the number of properties doesn't count in.
+pub fn plain_limit(bounds: &Bounds, program: &CProgram, function: &Function) -> u32
+    requires { HasPlainLimit program.now bounds.now function.now }
+    ensures { result ≡ limit_of bounds.now (recursion_prop program.now function.now) }
+{
+    for limit in bounds.limits.as_slice() {
+        if is_limit_of(program, limit, function) {
+            return limit.count;
+        }
+    }
+    bounds.unwind
 }
 
 fn var_type(var: Option<&Var>) -> IntType

@@ -10,6 +10,7 @@ ghost use Rattle.joint_ir.specs.Weights.{weight_of, capped as capped_of, main_we
 ghost use Rattle.joint_ir.specs.Runs.{body_of};
 
 use crate::bounds::{ACTIVATIONS, Bounds};
+use crate::lookup;
 use crate::module::Role;
 use crate::pair::Pair;
 use stmts::Scale;
@@ -49,6 +50,7 @@ fn main_weight(pair: &Pair, bounds: &Bounds) -> u64
                     bounds,
                     here: main,
                     left: ACTIVATIONS as u32 - 1,
+                    plain: lookup::are_plain(bounds, &pair.program),
                 };
                 stmts::stmt(&at, &[main], body)
             }

@@ -1,9 +1,10 @@
 //! What statements weigh, with the calls in them.
 
-ghost use Rattle.std.specs.Prelude.{◌≡◌, ◌+◌, ◌*◌, ◌<◌, ◌≤◌, ◌^◌, ◌++◌, ◌∷◌, [], min, take, length, slice_get, Some, nat_lt, count_by, eqb, if◌then◌else◌};
+ghost use Rattle.std.specs.Prelude.{◌≡◌, ◌+◌, ◌*◌, ◌<◌, ◌≤◌, ◌^◌, ◌++◌, ◌∷◌, [], min, take, length, slice_get, Some, nat_lt, true, count_by, eqb, if◌then◌else◌};
 ghost use Rattle.joint_ir.specs.Weights.{capped as capped_of, weight as node_weight, init_weight, call_weight, return_weight, declare_weight, loop_weight, group_weight, entered_weight, function_weight, calls_weight, body_weight, turns_weight, CallWeights};
-ghost use Rattle.joint_ir.specs.Weighed.{setting_of, calls_of, stmts_weight, option_stmt_weight, groups_of_weight};
-ghost use Rattle.joint_ir.specs.Statements.{is_below_limit, ACTIVATIONS};
+ghost use Rattle.joint_ir.specs.Weighed.{IsPlain, HasPlainLimit, setting_of, calls_of, stmts_weight, option_stmt_weight, groups_of_weight};
+ghost use Rattle.joint_ir.specs.Statements.{is_below_limit, recursion_prop, ACTIVATIONS};
+ghost use Rattle.joint_ir.specs.Steps.{limit_of as limit_is};
 
 use super::exprs::capped;
 use super::{exprs, parts};
@@ -15,14 +16,15 @@ use crate::program::Function;
 use crate::stmt::{Group, SNode, TCall, TInit, TLoop, TStmt};
 use sqlite_items::Boxed;
 
-/// What statements are weighed in: the pair and the bounds, the function whose body it is, and the number of activations
-/// that may stand besides.
+/// What statements are weighed in: the pair and the bounds, the function whose body it is, the number of activations that
+/// may stand besides, and whether the limits of functions are told by name alone.
 #[derive(Clone, Copy)]
 pub struct Scale<'a> {
     pub pair: &'a Pair,
     pub bounds: &'a Bounds,
     pub here: u32,
     pub left: u32,
+    pub plain: bool,
 }
 
 /// A statement.
@@ -30,6 +32,7 @@ pub struct Scale<'a> {
 pub fn stmt(at: &Scale, standing: &[u32], s: &TStmt) -> u64
     requires props { length at.now.pair.now.program.props < 2 ^ 32 }
     requires room { length standing.now + at.now.left ≤ ACTIVATIONS }
+    requires plain { IsPlain at.now }
     ensures value { result ≡ capped_of (node_weight (setting_of at.now) (calls_of at.now standing.now) s.now.node) }
     ensures bound { result ≤ 16777217 }
 {
@@ -79,6 +82,7 @@ pub fn stmt(at: &Scale, standing: &[u32], s: &TStmt) -> u64
 fn stmts(at: &Scale, standing: &[u32], items: &[TStmt]) -> u64
     requires props { length at.now.pair.now.program.props < 2 ^ 32 }
     requires room { length standing.now + at.now.left ≤ ACTIVATIONS }
+    requires plain { IsPlain at.now }
     ensures value { result ≡ capped_of (stmts_weight (setting_of at.now) (calls_of at.now standing.now) items.now) }
     ensures bound { result ≤ 16777217 }
 {
@@ -97,6 +101,7 @@ fn stmts(at: &Scale, standing: &[u32], items: &[TStmt]) -> u64
 fn option(at: &Scale, standing: &[u32], first: u64, other: &Option<Boxed<TStmt>>) -> u64
     requires props { length at.now.pair.now.program.props < 2 ^ 32 }
     requires room { length standing.now + at.now.left ≤ ACTIVATIONS }
+    requires plain { IsPlain at.now }
     requires first { first ≤ 16777217 }
     ensures value { result ≡ capped_of (first + option_stmt_weight (setting_of at.now) (calls_of at.now standing.now) other.now) }
     ensures bound { result ≤ 16777217 }
@@ -117,6 +122,7 @@ fn option(at: &Scale, standing: &[u32], first: u64, other: &Option<Boxed<TStmt>>
 fn turns(at: &Scale, standing: &[u32], one: &TLoop) -> u64
     requires props { length at.now.pair.now.program.props < 2 ^ 32 }
     requires room { length standing.now + at.now.left ≤ ACTIVATIONS }
+    requires plain { IsPlain at.now }
     ensures value { result ≡ capped_of (loop_weight (setting_of at.now) (calls_of at.now standing.now) one.now) }
     ensures bound { result ≤ 16777217 }
 {
@@ -136,6 +142,7 @@ fn turns(at: &Scale, standing: &[u32], one: &TLoop) -> u64
 fn groups(at: &Scale, standing: &[u32], bits: u8, cases: &[Group]) -> u64
     requires props { length at.now.pair.now.program.props < 2 ^ 32 }
     requires room { length standing.now + at.now.left ≤ ACTIVATIONS }
+    requires plain { IsPlain at.now }
     ensures value { result ≡ capped_of (groups_of_weight (setting_of at.now) (calls_of at.now standing.now) bits cases.now) }
     ensures bound { result ≤ 16777217 }
 {
@@ -156,6 +163,7 @@ fn groups(at: &Scale, standing: &[u32], bits: u8, cases: &[Group]) -> u64
 fn init(at: &Scale, standing: &[u32], value: &TInit) -> u64
     requires props { length at.now.pair.now.program.props < 2 ^ 32 }
     requires room { length standing.now + at.now.left ≤ ACTIVATIONS }
+    requires plain { IsPlain at.now }
     ensures value { result ≡ capped_of (init_weight at.now.pair.now.program (calls_of at.now standing.now) value.now) }
     ensures bound { result ≤ 16777217 }
 {
@@ -171,6 +179,7 @@ fn init(at: &Scale, standing: &[u32], value: &TInit) -> u64
 fn call(at: &Scale, standing: &[u32], one: &TCall) -> u64
     requires props { length at.now.pair.now.program.props < 2 ^ 32 }
     requires room { length standing.now + at.now.left ≤ ACTIVATIONS }
+    requires plain { IsPlain at.now }
     ensures value { result ≡ capped_of (call_weight at.now.pair.now.program (calls_of at.now standing.now) one.now) }
     ensures bound { result ≤ 16777217 }
 {
@@ -186,6 +195,7 @@ fn call(at: &Scale, standing: &[u32], one: &TCall) -> u64
 fn callee(at: &Scale, standing: &[u32], f: u32) -> u64
     requires props { length at.now.pair.now.program.props < 2 ^ 32 }
     requires room { length standing.now + at.now.left ≤ ACTIVATIONS }
+    requires plain { IsPlain at.now }
     ensures value { result ≡ capped_of (calls_of at.now standing.now f) }
     ensures bound { result ≤ 16777217 }
 {
@@ -203,6 +213,7 @@ fn callee(at: &Scale, standing: &[u32], f: u32) -> u64
                     bounds: at.bounds,
                     here: f,
                     left: at.left - 1,
+                    plain: at.plain,
                 };
                 let own = parts::entry(&at.pair.program, function);
                 capped(own + stmt(&entered, &inner[..standing.len() + 1], body))
@@ -211,14 +222,26 @@ fn callee(at: &Scale, standing: &[u32], f: u32) -> u64
     }
 }
 
+fn limit_of(at: &Scale, function: &Function) -> u32
+    requires props { length at.now.pair.now.program.props < 2 ^ 32 }
+    requires plain { at.now.plain ≡ true → HasPlainLimit at.now.pair.now.program at.now.bounds.now function.now }
+    ensures { result ≡ limit_is at.now.bounds.now (recursion_prop at.now.pair.now.program function.now) }
+{
+    if at.plain {
+        lookup::plain_limit(at.bounds, &at.pair.program, function)
+    } else {
+        lookup::function_limit(at.bounds, &at.pair.program, function)
+    }
+}
+
 /// Fewer activations of a function stand than its limit.
 fn is_below(at: &Scale, standing: &[u32], f: u32, function: &Function) -> bool
     requires props { length at.now.pair.now.program.props < 2 ^ 32 }
+    requires plain { at.now.plain ≡ true → HasPlainLimit at.now.pair.now.program at.now.bounds.now function.now }
     ensures { result ≡ is_below_limit at.now.pair.now at.now.bounds.now standing.now f function.now }
 {
     let stands = standing.iter().filter(|g| **g == f).count();
-    let limit = lookup::function_limit(at.bounds, &at.pair.program, function);
-    stands < limit as usize
+    stands < limit_of(at, function) as usize
 }
 
 /// The functions whose activations stand, with one more behind them, at the front of an array.
