@@ -4,15 +4,15 @@ use Rattle.std.specs.Prelude.{if◌then◌else◌}
 use Rattle.bitblast.specs.Circuit.{differ}
 use Rattle.bits_core.specs.Word.{bit}
 
-exclusive_table : (p q : Bool) → ((p && not q) || (not p && q)) ≡ differ p q
+exclusive_table : (p q : Bool) → (not (p && q) && not (not p && not q)) ≡ differ p q
 exclusive_table true true = refl
 exclusive_table true false = refl
 exclusive_table false true = refl
 exclusive_table false false = refl
 
-pub exclusive_is : (p q n m l r e : Bool) → m ≡ not q → l ≡ (p && m) → n ≡ not p → r ≡ (n && q) → e ≡ (l || r) → e ≡ differ p q
-exclusive_is p q n m l r e f g h i j =
-    j ∙ ap (λ x. x || r) (g ∙ ap (λ x. p && x) f) ∙ ap (λ x. (p && not q) || x) (i ∙ ap (λ x. x && q) h) ∙ exclusive_table p q
+pub exclusive_is : (p q two m n neither k l e : Bool) → two ≡ (p && q) → m ≡ not p → n ≡ not q → neither ≡ (m && n) → k ≡ not two → l ≡ not neither → e ≡ (k && l) → e ≡ differ p q
+exclusive_is p q two m n neither k l e f g h i j t u =
+    u ∙ ap (λ x. x && l) (j ∙ ap not f) ∙ ap (λ x. not (p && q) && x) (t ∙ ap not (i ∙ ap (λ x. x && n) g ∙ ap (λ x. not p && x) h)) ∙ exclusive_table p q
 
 adder_table : (p q r : Bool) → bit (differ (differ p q) r) + 2 * bit ((p && q) || (differ p q && r)) ≡ bit p + bit q + bit r
 adder_table true true true = refl

@@ -37,16 +37,16 @@ pub fn either(net: &mut Net, p: Edge, q: Edge) -> Result<Edge, AllocError>
     Ok(opposite(neither))
 }
 
-/// Exactly one of two edges.
+/// Exactly one of two edges. Its first gate is that of both, which a sum shares with its carry.
 pub fn exclusive(net: &mut Net, p: Edge, q: Edge) -> Result<Edge, AllocError>
     requires room { length net.old + 3 ≤ 2147483648 }
     requires left { p.node < length net.old }
     requires right { q.node < length net.old }
     ensures { IfOk result (MakesEdge net.old net.new 3 (λ a. differ (edge_value a p) (edge_value a q))) }
 {
-    let only_left = both(net, p, opposite(q))?;
-    let only_right = both(net, opposite(p), q)?;
-    let e = either(net, only_left, only_right)?;
+    let two = both(net, p, q)?;
+    let neither = both(net, opposite(p), opposite(q))?;
+    let e = both(net, opposite(two), opposite(neither))?;
     Ok(e)
 }
 

@@ -53,6 +53,17 @@ pub fn with_top(word: &[Edge], top: Edge) -> Wire
     made
 }
 
+/// A word with one edge more on its right.
+pub fn with_low(low: Edge, word: &[Edge]) -> Wire
+    requires { length word.now < 128 }
+    ensures { result.items ≡ low ∷ word.now }
+{
+    let mut made = Wire::new();
+    made.push(low);
+    append(&mut made, word);
+    made
+}
+
 /// A word shifted to the left by one bit.
 #[derive(Drop)]
 pub struct Shifted {
