@@ -50,7 +50,7 @@ use Rattle.c_meaning.proofs.Means.{stand_left, stand_right}
 pub int_is : IsType int
 int_is = Single true
 
-named_is : (t : IntegerType) → IsType (named t)
+pub named_is : (t : IntegerType) → IsType (named t)
 named_is word.Bool = Truth
 named_is (word.Char s) = Byte (is_signed s)
 named_is (word.Short s) = Half (is_signed s)
@@ -65,10 +65,10 @@ named_is word.Uint16 = Half false
 named_is word.Uint32 = Single false
 named_is word.Uint64 = Double false
 
-int_wide : IsPromoted int
+pub int_wide : IsPromoted int
 int_wide = record { type = Single true; wide = omega arith }
 
-promoted_is : (t : IntType) → IsType t → IsPromoted (promoted t)
+pub promoted_is : (t : IntType) → IsType t → IsPromoted (promoted t)
 promoted_is _ Truth = int_wide
 promoted_is _ (Byte s) = int_wide
 promoted_is _ (Half s) = int_wide
@@ -93,7 +93,7 @@ wider_is _ _ (Wide s) (Widest r) = record { type = Double r; wide = omega arith 
 wider_is _ _ (Widest s) (Wide r) = record { type = Double s; wide = omega arith }
 wider_is _ _ (Widest s) (Widest r) = record { type = Double (s && r); wide = omega arith }
 
-common_is : (t u : IntType) → IsType t → IsType u → IsPromoted (common t u)
+pub common_is : (t u : IntType) → IsType t → IsType u → IsPromoted (common t u)
 common_is t u a c = wider_is (promoted t) (promoted u) (promoted_wide t a) (promoted_wide u c)
 
 same_bool_true : (a c : Bool) → same_bool a c ≡ true → a ≡ c
@@ -193,7 +193,7 @@ IsFound c Unknown = Unit {0}
 IsFound c Other = Unit {0}
 IsFound c (Integer o) = IsThere c o
 
-abbrev IsShaped : well.Scope → (indexed : Bool) → Found → Type 0
+abbrev pub IsShaped : well.Scope → (indexed : Bool) → Found → Type 0
 IsShaped c indexed Unknown = Unit {0}
 IsShaped c indexed Other = Unit {0}
 IsShaped c indexed (Integer o) = IsThere c o × (nat_lt 0 o.length ≡ indexed)
@@ -225,11 +225,11 @@ is_shaped c indexed (Integer o) h = pick (same_bool (nat_lt 0 o.length) indexed)
     pick true e = (h, same_bool_true (nat_lt 0 o.length) indexed e)
     pick false e = tt
 
-path_is : (c : well.Scope) (env : List Scope) (indexed : Bool) (o : Object) → AreThere c env → IsShaped c indexed (found env indexed o)
+pub path_is : (c : well.Scope) (env : List Scope) (indexed : Bool) (o : Object) → AreThere c env → IsShaped c indexed (found env indexed o)
 path_is c env indexed x h =
     is_shaped c indexed (reached env x (lookup env x.name.name)) (is_reached c env x (lookup env x.name.name) h (h x.name.name))
 
-found_type_is : (c : well.Scope) (indexed : Bool) (f : Found) → IsShaped c indexed f → IsType (type_found f)
+pub found_type_is : (c : well.Scope) (indexed : Bool) (f : Found) → IsShaped c indexed f → IsType (type_found f)
 found_type_is c indexed Unknown h = int_is
 found_type_is c indexed Other h = int_is
 found_type_is c indexed (Integer o) h = h.0.type
@@ -248,7 +248,7 @@ unary_type_is Not t h = int_is
 
 module _ (c : well.Scope) (env : List Scope) (names : AreThere c env) where
   mutual
-    path_type_is : (x : Path) → IsType (path_type env x)
+    pub path_type_is : (x : Path) → IsType (path_type env x)
     path_type_is (path.Object o) = found_type_is c false (found env false o) (path_is c env false o names)
     path_type_is (path.Element' o p _ (path.more_of-Expression e _)) = found_type_is c true (found env true o) (path_is c env true o names)
 
@@ -278,12 +278,12 @@ module _ (c : well.Scope) (all : List Site) (props : AreProps all c.program) whe
       pick true e = rw e (same_type_true x.ty t e, h)
       pick false e = rw e (refl, (is, h))
 
-  there : (k : PropKind) (p : Place) (at : ℕ) → StandAt all at (sites_of (Some k) p) → IsProp c.program k (record { 0 = number_of at })
+  pub there : (k : PropKind) (p : Place) (at : ℕ) → StandAt all at (sites_of (Some k) p) → IsProp c.program k (record { 0 = number_of at })
   there k p at h =
       let x = props at (record { kind = k; place = p }) h.1 in
       (x.0, ap (λ n. slice_get c.program.props n) (mod-eq_of_lt h.0) ∙ x.1, x.2)
 
-  overflow_fits : (s : Bool) (p : Place) (at : ℕ) → StandAt all at (sites_of (overflow_if s) p) → HasProp c.program kind.Overflow s (prop_at at (sites_of (overflow_if s) p))
+  pub overflow_fits : (s : Bool) (p : Place) (at : ℕ) → StandAt all at (sites_of (overflow_if s) p) → HasProp c.program kind.Overflow s (prop_at at (sites_of (overflow_if s) p))
   overflow_fits true p at h = there kind.Overflow p at h
   overflow_fits false p at h = refl
 
@@ -295,7 +295,7 @@ module _ (c : well.Scope) (all : List Site) (props : AreProps all c.program) whe
   unary_fits Not t p at is h = (refl, refl)
 
   -- the operators of each meaning
-  abbrev Works : Meaning → Type 0
+  abbrev pub Works : Meaning → Type 0
   Works (meaning.Logic op) = Unit {0}
   Works (meaning.Arithmetic op) =
       (t : IntType) (p : Place) (at : ℕ) → IsPromoted t → StandAt all at (operator_sites op t.signed p) →
@@ -305,10 +305,10 @@ module _ (c : well.Scope) (all : List Site) (props : AreProps all c.program) whe
       (t u : IntType) (p : Place) (at : ℕ) → IsPromoted t → IsPromoted u → StandAt all at (operator_sites op t.signed p) →
       FitsBinary c.program op t t u (prop_at at (sites_of (division_kind op) p)) (prop_at (at + length (sites_of (division_kind op) p)) (sites_of (other_kind op t.signed) p))
 
-  zero_more : (at : ℕ) (s : List Site) → StandAt all at s → StandAt all (at + 0) s
+  pub zero_more : (at : ℕ) (s : List Site) → StandAt all at s → StandAt all (at + 0) s
   zero_more at s h = subst (λ n. StandAt all n s) (omega arith) h
 
-  works : (o : BinaryOperator) → Works (meaning_of o)
+  pub works : (o : BinaryOperator) → Works (meaning_of o)
   works b.Multiply = λ t p at is h. (is, refl, refl, refl, overflow_fits t.signed p (at + 0) (zero_more at (sites_of (overflow_if t.signed) p) h))
   works b.Divide = λ t p at is h. (is, refl, refl, there kind.Division p at (h.0, h.1, tt), overflow_fits t.signed p (at + 1) h.2)
   works b.Remainder = λ t p at is h. (is, refl, refl, there kind.Division p at (h.0, h.1, tt), overflow_fits t.signed p (at + 1) h.2)
