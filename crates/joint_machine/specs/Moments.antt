@@ -1,6 +1,5 @@
 -- What a machine shows of a run.
 use Rattle.std.specs.Prelude.{◌≡◌, ℕ, ◌+◌, ℤ, List, [], ◌∷◌, ◌++◌, drop, Result, Ok, Err}
-use Rattle.joint_ir.specs.declared.bounds.Bounds.{Bounds}
 use Rattle.joint_ir.specs.Types.{InRange}
 use Rattle.joint_ir.specs.declared.ctype.IntType.{IntType}
 use Rattle.joint_ir.specs.declared.expr.Slot.TheVariants.{Local}
@@ -8,8 +7,7 @@ use Rattle.joint_ir.specs.declared.pair.Pair.{Pair}
 use Rattle.joint_ir.specs.declared.program.CProgram.{CProgram}
 use Rattle.joint_ir.specs.States.{JointState}
 use Rattle.joint_ir.specs.Effects.{Effect, Told, Onward, Goes, Stops, TooFew, preceded}
-use Rattle.joint_ir.specs.Steps.{Setting, Calls, slot_type}
-use Rattle.joint_ir.specs.Statements.{calls_at}
+use Rattle.joint_ir.specs.Steps.{Setting, slot_type}
 use Rattle.joint_ir.specs.WellFormed.{Scope}
 use Rattle.joint_value.specs.Answers.{IsSmall}
 use Rattle.joint_value.specs.Evaluable.{KeepsTypes}
@@ -18,9 +16,11 @@ use Rattle.joint_view.specs.declared.halt.Halt.TheVariants as halt
 use Rattle.joint_view.specs.Conditions.{IsView}
 use Rattle.joint_view.specs.Halts.{last_events, only_seen, unmeasured}
 use Rattle.joint_machine.specs.declared.machine.Machine.{Machine}
+use Rattle.joint_machine.specs.declared.setting.Activation.{Activation}
 use Rattle.joint_ir.specs.declared.way.Way.{Way}
 use Rattle.joint_ir.specs.declared.way.Way.TheVariants as way
 
+-- the state of a run that a machine holds
 abbrev pub state_of : Machine → JointState
 state_of m = record { store = m.store; view = m.view; edges = m.edges; returned = m.returned }
 
@@ -79,12 +79,9 @@ pub record Stands (p : Pair) (here : ℕ) (fits : Scope → Type 0) : Type 0 whe
   pub function : scope.here ≡ here
   pub holds : fits scope
 
-abbrev pub setting : Pair → Bounds → (here : ℕ) → Setting
-setting p b here = record { pair = p; bounds = b; here = here }
-
--- what calls do where a machine stands
-abbrev pub calls_of : Pair → Bounds → (left : ℕ) → Machine → Calls
-calls_of p b left m = calls_at p b left m.standing.items
+-- what the definitions are told of an activation: the pair, the bounds and the function whose body it is
+abbrev pub setting_of : Activation → Setting
+setting_of a = record { pair = a.pair.now; bounds = a.bounds.now; here = a.here }
 
 -- numbers in the ranges of types
 abbrev pub InTypes : List IntType → List ℤ → Type 0

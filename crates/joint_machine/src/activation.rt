@@ -11,18 +11,19 @@ ghost use Rattle.joint_value.specs.Evaluable.{KeepsTypes};
 ghost use Rattle.joint_machine.specs.Moments.{Passes, AreParams, IsKept, IsReady};
 
 use crate::machine::Machine;
-use joint_ir::{Bounds, Function, IntType, Pair, Way, lookup};
+use crate::setting::Activation;
+use joint_ir::{Function, IntType, Pair, Way, lookup};
 use joint_value::Rows;
 use joint_view::Halt;
 use std::alloc::Global;
 
 impl Machine {
     /// Whether a function may have one more activation under its limit.
-    pub fn may_enter(&self, pair: &Pair, bounds: &Bounds, function: u32, callee: &Function) -> bool
-        requires { IsWellFormed pair.now }
-        ensures { result ≡ is_below_limit pair.now bounds.now self.now.standing.items function callee.now }
+    pub fn may_enter(&self, at: &Activation, function: u32, callee: &Function) -> bool
+        requires { IsWellFormed at.now.pair.now }
+        ensures { result ≡ is_below_limit at.now.pair.now at.now.bounds.now self.now.standing.items function callee.now }
     {
-        let limit = lookup::limit(bounds, lookup::recursion(&pair.program, callee));
+        let limit = lookup::limit(at.bounds, lookup::recursion(&at.pair.program, callee));
         self.activations(function) < limit as usize
     }
 

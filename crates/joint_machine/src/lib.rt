@@ -7,6 +7,8 @@
 pub mod activation;
 pub mod machine;
 pub mod reaching;
+pub mod setting;
 pub mod simple;
 
 pub use machine::Machine;
+pub use setting::Activation;

@@ -11,6 +11,7 @@ ghost use Rattle.joint_value.specs.Answers.{answer_of};
 ghost use Rattle.joint_view.specs.Conditions.{IsNarrow};
 ghost use Rattle.joint_machine.specs.Moments.{state_of, left_of, Does, Passes, Finds, IsKept, IsReady, Halts, Stands, from_here};
 
+use crate::setting::Activation;
 use joint_ir::{Choices, Event, Outcome, Pair, PropId, Slot, TExpr};
 use joint_value::Store;
 use joint_view::{Halt, View, choices};
@@ -91,13 +92,13 @@ impl Machine {
     }
 
     /// The value of an expression, or the end of the run by a property that breaks.
-    pub fn value(&self, pair: &Pair, frames: u32, here: u32, e: &TExpr) -> Result<i128, Halt>
-        requires well { IsWellFormed pair.now }
-        requires ready { IsReady pair.now self.now }
-        requires fits { Stands pair.now here (λ c. FitsExpr c e.now) }
-        ensures value { MatchResult result (λ n. value_of (rows_of frames self.now.store) e.now ≡ Answer.Value n) (λ h. (p : PropId) × (h ≡ Halt.Stop (Outcome.Broken p)) × (value_of (rows_of frames self.now.store) e.now ≡ Answer.Fault p)) }
+    pub fn value(&self, at: &Activation, e: &TExpr) -> Result<i128, Halt>
+        requires well { IsWellFormed at.now.pair.now }
+        requires ready { IsReady at.now.pair.now self.now }
+        requires fits { Stands at.now.pair.now at.now.here (λ c. FitsExpr c e.now) }
+        ensures value { MatchResult result (λ n. value_of (rows_of at.now.bounds.now.frames self.now.store) e.now ≡ Answer.Value n) (λ h. (p : PropId) × (h ≡ Halt.Stop (Outcome.Broken p)) × (value_of (rows_of at.now.bounds.now.frames self.now.store) e.now ≡ Answer.Fault p)) }
         ensures range { IfOk result (InRange e.now.ty) }
     {
-        or_break(joint_value::value(frames, &self.store, e))
+        or_break(joint_value::value(at.bounds.frames, &self.store, e))
     }
 }

@@ -1,13 +1,14 @@
 //! The two calls that reach the module.
 
-ghost use Rattle.std.specs.Prelude.{◌≡◌, ℕ, ◌+◌, ◌<◌, ◌++◌, ◌∷◌, [], drop, IfOk, IfErr};
+ghost use Rattle.std.specs.Prelude.{◌≡◌, ◌+◌, ◌<◌, ◌++◌, ◌∷◌, [], drop, IfOk, IfErr};
 ghost use Rattle.joint_ir.specs.Steps.{set_inputs as inputs_set, next_frame as frame_taken};
 ghost use Rattle.joint_ir.specs.WellFormed.{IsWellFormed};
 ghost use Rattle.joint_view.specs.Moves.{moved_to, row_items};
-ghost use Rattle.joint_machine.specs.Moments.{Passes, IsKept, IsReady, setting, state_of, left_of};
+ghost use Rattle.joint_machine.specs.Moments.{Passes, IsKept, IsReady, setting_of, state_of, left_of};
 
 use crate::machine::{Machine, push};
-use joint_ir::{Bounds, Pair, PropId};
+use crate::setting::Activation;
+use joint_ir::PropId;
 use joint_value::Rows;
 use joint_view::{Halt, Moved, steps};
 use std::alloc::Global;
@@ -22,16 +23,16 @@ fn one_more(edges: u32, frames: u32) -> u32
 
 impl Machine {
     /// `set_inputs()`: the mirror drives the inputs, the wires settle, and the mirror is filled again.
-    pub fn set_inputs(&mut self, alloc: Global, pair: &Pair) -> Result<(), Halt>
-        requires well { IsWellFormed pair.now }
-        requires ready { IsReady pair.now self.old }
-        ensures does { (bounds : Bounds) (here : ℕ) → Passes result self.old self.new (inputs_set (setting pair.now bounds here)) }
+    pub fn set_inputs(&mut self, alloc: Global, at: &Activation) -> Result<(), Halt>
+        requires well { IsWellFormed at.now.pair.now }
+        requires ready { IsReady at.now.pair.now self.old }
+        ensures does { Passes result self.old self.new (inputs_set (setting_of at.now)) }
         ensures kept { IsKept self.old self.new }
-        ensures ready { IfOk result (λ _. IsReady pair.now self.new) }
+        ensures ready { IfOk result (λ _. IsReady at.now.pair.now self.new) }
     {
         let moved = steps::set_inputs(
             alloc,
-            pair,
+            at.pair,
             &self.view,
             self.store.members().as_slice(),
             self.choices.as_slice(),
@@ -42,30 +43,24 @@ impl Machine {
     }
 
     /// `next_timeframe()`, with the `frame` property of the call: a clock edge, or past the last one the end of the run.
-    pub fn next_frame(
-        &mut self,
-        alloc: Global,
-        pair: &Pair,
-        bounds: &Bounds,
-        prop: PropId,
-    ) -> Result<(), Halt>
-        requires well { IsWellFormed pair.now }
-        requires ready { IsReady pair.now self.old }
-        ensures does { (here : ℕ) → Passes result self.old self.new (frame_taken (setting pair.now bounds.now here) prop) }
+    pub fn next_frame(&mut self, alloc: Global, at: &Activation, prop: PropId) -> Result<(), Halt>
+        requires well { IsWellFormed at.now.pair.now }
+        requires ready { IsReady at.now.pair.now self.old }
+        ensures does { Passes result self.old self.new (frame_taken (setting_of at.now) prop) }
         ensures kept { IsKept self.old self.new }
-        ensures ready { IfOk result (λ _. IsReady pair.now self.new) }
+        ensures ready { IfOk result (λ _. IsReady at.now.pair.now self.new) }
     {
         let moved = steps::next_frame(
             alloc,
-            pair,
-            bounds,
+            at.pair,
+            at.bounds,
             self.edges,
             prop,
             &self.view,
             self.choices.as_slice(),
             self.at,
         )?;
-        let edges = one_more(self.edges, bounds.frames);
+        let edges = one_more(self.edges, at.bounds.frames);
         self.move_to(edges, moved)
     }
 

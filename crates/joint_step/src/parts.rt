@@ -6,14 +6,12 @@ ghost use Rattle.joint_ir.specs.Effects.{Onward, after_groups};
 ghost use Rattle.joint_ir.specs.Steps.{Calls, rows_in, declare_array as array_declared, slot_type as type_of, type_or_int, result_of};
 ghost use Rattle.joint_ir.specs.Statements.{after, is_below_limit, recursion_prop, condition_value};
 ghost use Rattle.joint_ir.specs.WellFormed.{IsWellFormed, FitsStmt, FitsElements, FitsOption};
-ghost use Rattle.joint_machine.specs.Moments.{Does, Passes, Finds, Stands, IsReady};
+ghost use Rattle.joint_machine.specs.Moments.{Does, Passes, Finds, Stands, IsReady, setting_of};
 ghost use Rattle.joint_step.specs.Parts.{turn_left, other_way, is_plain, first_tested, may_stand};
-ghost use Rattle.joint_step.specs.Walks.{setting_of, GoesOn};
+ghost use Rattle.joint_step.specs.Walks.{GoesOn};
 
-use joint_ir::{
-    Bounds, CProgram, Function, IntType, Outcome, Pair, SNode, Slot, TInit, TLoop, Way, lookup,
-};
-use joint_machine::Machine;
+use joint_ir::{CProgram, Function, IntType, Outcome, SNode, Slot, TInit, TLoop, Way, lookup};
+use joint_machine::{Activation, Machine};
 use joint_view::Halt;
 use src_text::Place;
 use std::alloc::Global;
@@ -24,22 +22,12 @@ const INT: IntType = IntType {
     truth: false,
 };
 
-/// What statements are carried out in: the pair and the bounds, the function whose body it is, and the number of
-/// activations that may stand besides.
-#[derive(Clone, Copy)]
-pub struct Activation<'a> {
-    pub pair: &'a Pair,
-    pub bounds: &'a Bounds,
-    pub here: u32,
-    pub left: u32,
-}
-
 /// Whether a function may have one more activation.
 pub fn may_begin(at: &Activation, machine: &Machine, function: u32, callee: &Function) -> bool
     requires { IsWellFormed at.now.pair.now }
     ensures { result ≡ may_stand at.now.left (is_below_limit at.now.pair.now at.now.bounds.now machine.now.standing.items function callee.now) }
 {
-    at.left > 0 && machine.may_enter(at.pair, at.bounds, function, callee)
+    at.left > 0 && machine.may_enter(at, function, callee)
 }
 
 /// The end of a run by a call that may not begin an activation.
@@ -61,7 +49,7 @@ pub fn first_stops(at: &Activation, machine: &Machine, one: &TLoop) -> Result<bo
     if !one.tests_first {
         return Ok(false);
     }
-    machine.stops(at.pair, at.bounds, at.here, &one.cond)
+    machine.stops(at, &one.cond)
 }
 
 /// A statement without statements or calls in it.
@@ -79,15 +67,13 @@ pub fn simple(
     ensures goes { GoesOn at.now result machine.old machine.new }
 {
     match node {
-        SNode::Update(target, update) => past(machine.update(
-            at.pair, at.bounds, at.here, target, update,
-        )),
+        SNode::Update(target, update) => past(machine.update(at, target, update)),
         SNode::Break => Ok(Way::Breaking),
         SNode::Continue => Ok(Way::Continuing),
-        SNode::Assert(e, prop) => past(machine.assert(at.pair, at.bounds, at.here, e.get(), *prop)),
-        SNode::Assume(e) => past(machine.assume(at.pair, at.bounds, at.here, e.get())),
-        SNode::SetInputs => past(machine.set_inputs(alloc, at.pair)),
-        SNode::NextFrame(prop) => past(machine.next_frame(alloc, at.pair, at.bounds, *prop)),
+        SNode::Assert(e, prop) => past(machine.assert(at, e.get(), *prop)),
+        SNode::Assume(e) => past(machine.assume(at, e.get())),
+        SNode::SetInputs => past(machine.set_inputs(alloc, at)),
+        SNode::NextFrame(prop) => past(machine.next_frame(alloc, at, *prop)),
         _ => Ok(Way::Next),
     }
 }
@@ -111,15 +97,7 @@ pub fn declare_array(
 {
     match init {
         TInit::Free => machine.free_elements(line, x, ty, length),
-        TInit::Values(es) => machine.set_elements(
-            at.pair,
-            at.bounds,
-            at.here,
-            line,
-            x,
-            length,
-            es.as_slice(),
-        ),
+        TInit::Values(es) => machine.set_elements(at, line, x, length, es.as_slice()),
         TInit::Called(_) => Ok(()),
     }
 }

@@ -7,10 +7,9 @@ ghost use Rattle.joint_view.specs.Halts.{HaltsAs, last_events, unmeasured};
 ghost use Rattle.joint_machine.specs.Moments.{Does, Halts, IsReady, from_here};
 ghost use Rattle.joint_step.specs.Ends.{IsRun, IsCutOff, IsShort};
 
-use crate::parts::Activation;
 use crate::walk;
 use joint_ir::{ACTIVATIONS, Bounds, Choices, Event, EventList, Outcome, Pair, Way};
-use joint_machine::{Machine, machine};
+use joint_machine::{Activation, Machine, machine};
 use joint_value::{Rows, Store};
 use joint_view::{Halt, seen, steps};
 use std::alloc::{AllocError, Global};

@@ -5,20 +5,20 @@ ghost use Rattle.joint_ir.specs.Steps.{store_effect, declare_effect, call_effect
 ghost use Rattle.joint_ir.specs.Statements.{after, after_loop};
 ghost use Rattle.joint_ir.specs.Types.{InRange, IsType};
 ghost use Rattle.joint_ir.specs.WellFormed.{IsWellFormed, FitsStmt, FitsTarget, FitsInit, FitsDeclare, FitsLoop, FitsCall};
-ghost use Rattle.joint_machine.specs.Moments.{Stands, IsReady};
+ghost use Rattle.joint_machine.specs.Moments.{Stands, IsReady, setting_of};
 ghost use Rattle.joint_lists.specs.Lists.{after_items, after_option, after_cases, FitsItems, FitsOptional, FitsCases};
 ghost use Rattle.joint_step.specs.Parts.{IsTaken};
-ghost use Rattle.joint_step.specs.Walks.{setting_of, DoesIn, PassesIn, FindsIn, GoesOn};
+ghost use Rattle.joint_step.specs.Walks.{DoesIn, PassesIn, FindsIn, GoesOn};
 
 use crate::parts::{
-    Activation, declare_array, elsewhere, first_stops, leaves, left, may_begin, past, refused,
-    result_type, simple,
+    declare_array, elsewhere, first_stops, leaves, left, may_begin, past, refused, result_type,
+    simple,
 };
 use joint_ir::{
     Group, IntType, Outcome, SNode, Slot, TCall, TInit, TLoop, TStmt, TTarget, Way, lookup,
 };
 use joint_lists::{entry, own_end};
-use joint_machine::Machine;
+use joint_machine::{Activation, Machine};
 use joint_value::arith;
 use joint_view::Halt;
 use sqlite_items::Boxed;
@@ -45,7 +45,7 @@ pub fn statement(
         SNode::Store(target, init) => past(store(alloc, at, machine, target, init)),
         SNode::Call(one) => past(call(alloc, at, machine, one)),
         SNode::If(e, body, other) => {
-            let n = machine.value(at.pair, at.bounds.frames, at.here, e.get())?;
+            let n = machine.value(at, e.get())?;
             if n == 0 {
                 optional(alloc, at, machine, other)
             } else {
@@ -54,7 +54,7 @@ pub fn statement(
         }
         SNode::Loop(one) => repeat(alloc, at, machine, one),
         SNode::Switch(e, groups) => {
-            let n = machine.value(at.pair, at.bounds.frames, at.here, e.get())?;
+            let n = machine.value(at, e.get())?;
             match entry(groups.as_slice(), n) {
                 None => Ok(Way::Next),
                 Some(from) => left(run_cases(alloc, at, machine, groups.as_slice(), from)),
@@ -140,7 +140,7 @@ fn repeat(alloc: Global, at: &Activation, machine: &mut Machine, one: &TLoop) ->
         if let Some(way) = elsewhere(way) {
             return Ok(way);
         }
-        if machine.stops(at.pair, at.bounds, at.here, &one.cond)? {
+        if machine.stops(at, &one.cond)? {
             return Ok(Way::Next);
         }
     }
@@ -214,10 +214,10 @@ fn store(
     ensures does { PassesIn at.now result machine.old machine.new (λ calls. store_effect (setting_of at.now) calls target.now init.now) }
     ensures goes { GoesOn at.now result machine.old machine.new }
 {
-    let index = machine.index(at.pair, at.bounds, at.here, &target.index)?;
+    let index = machine.index(at, &target.index)?;
     let ty = lookup::slot_type(&at.pair.program, target.slot);
     let n = initial(alloc, at, machine, ty, init)?;
-    machine.store_into(at.pair, at.bounds, at.here, target, index, n)
+    machine.store_into(at, target, index, n)
 }
 
 /// A declaration of an automatic variable (C99 6.7.8, 6.8).
@@ -267,7 +267,7 @@ fn initial(
 {
     match init {
         TInit::Free => machine.any_number(ty),
-        TInit::Values(es) => machine.value_or_zero(at.pair, at.bounds, at.here, es.as_slice(), 0),
+        TInit::Values(es) => machine.value_or_zero(at, es.as_slice(), 0),
         TInit::Called(one) => {
             call(alloc, at, machine, one)?;
             Ok(arith::converted(ty, machine.returned))
@@ -284,7 +284,7 @@ fn call(alloc: Global, at: &Activation, machine: &mut Machine, one: &TCall) -> R
     ensures does { PassesIn at.now result machine.old machine.new (λ calls. call_effect (setting_of at.now) calls one.now) }
     ensures goes { GoesOn at.now result machine.old machine.new }
 {
-    let args = machine.arguments(alloc, at.pair, at.bounds, at.here, one.args.as_slice())?;
+    let args = machine.arguments(alloc, at, one.args.as_slice())?;
     enter(alloc, at, machine, one.place, one.function, args.as_slice())
 }
 

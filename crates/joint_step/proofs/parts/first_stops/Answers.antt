@@ -2,9 +2,8 @@ use Rattle.std.proofs.Common.{◌≡◌, Bool, true, sym, subst, rules}
 use Rattle.joint_ir.specs.declared.stmt.TLoop.{out-TLoop}
 use Rattle.joint_ir.specs.Steps.{rows_in}
 use Rattle.joint_ir.specs.Statements.{condition_value}
-use Rattle.joint_machine.specs.Moments.{Finds}
+use Rattle.joint_machine.specs.Moments.{Finds, setting_of}
 use Rattle.joint_step.specs.Parts.{first_tested}
-use Rattle.joint_step.specs.Walks.{setting_of}
 use Rattle.joint_step.proofs.parts.first_stops.Goals as goal
 
 pub returns : goal.returns

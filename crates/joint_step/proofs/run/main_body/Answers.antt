@@ -3,8 +3,8 @@ use Rattle.std.specs.Prelude.{◌-◌, Option}
 use Rattle.joint_ir.specs.declared.program.Function.{Function}
 use Rattle.joint_ir.specs.declared.stmt.TStmt.{TStmt}
 use Rattle.joint_ir.specs.Runs.{main_effect, body_of}
+use Rattle.joint_ir.specs.Steps.{Setting}
 use Rattle.joint_ir.specs.Statements.{ACTIVATIONS, after, calls_at}
-use Rattle.joint_machine.specs.Moments.{setting}
 use Rattle.joint_step.proofs.Flows.{does_as}
 use Rattle.joint_step.proofs.Inits.{stands_callee}
 use Rattle.joint_step.proofs.Runs.{main_of}
@@ -19,7 +19,8 @@ returns-in-Some-body c =
     let p = c.args.pair.now in
     let b = c.args.bounds.now in
     let body = c.in-Some-body.body in
+    let k : Setting = record { pair = p; bounds = b; here = p.program.main } in
     does_as c.statement.result c.args.machine.now c.statement.new.machine (main_of p b)
-    (after (setting p b p.program.main) (calls_at p b (ACTIVATIONS - 1) (p.program.main ∷ [])) body.place body.node)
+    (after k (calls_at p b (ACTIVATIONS - 1) (p.program.main ∷ [])) body.place body.node)
     (ap (λ (o : Option Function). main_effect p b (body_of o)) (sym c.in-Some.ensures.value) ∙ ap (λ (o : Option TStmt). main_effect p b o) c.in-Some-body.is)
     (c.statement.ensures.does (p.program.main ∷ []) c.requires.standing)

@@ -12,10 +12,10 @@ use Rattle.joint_ir.specs.declared.stmt.Group.{Group, out-Group}
 use Rattle.joint_ir.specs.Effects.{Effect, Onward, nothing, Goes}
 use Rattle.joint_ir.specs.Steps.{rows_in, limit_of}
 use Rattle.joint_ir.specs.Statements.{after, calls_at}
-use Rattle.joint_machine.specs.Moments.{Passes, Finds, Halts, Stands, from_here}
+use Rattle.joint_machine.specs.Moments.{Passes, Finds, Halts, Stands, from_here, setting_of}
 use Rattle.joint_machine.proofs.Flow.{nothing_done}
 use Rattle.joint_lists.specs.Lists.{after_items, after_option, after_cases, entered_case}
-use Rattle.joint_step.specs.Walks.{setting_of, calls_in}
+use Rattle.joint_step.specs.Walks.{calls_in}
 use Rattle.joint_value.specs.Elements.{part_of, replaced}
 use Rattle.joint_step.proofs.Restored.{own_from, call_room, call_restored, ok_ready}
 use Rattle.joint_step.proofs.Flows.{goes_both, does_as, if_zero, if_other, if_halts, switch_none, switch_some, returned_gone, kept_then, items_step, items_leave, items_halt, items_done, cases_step, cases_leave, cases_halt, cases_done}

@@ -2,9 +2,9 @@ use Rattle.std.proofs.Common.{◌≡◌, ◌+◌, ◌-◌, ◌*◌, ℕ, List, d
 use Rattle.joint_ir.specs.declared.stmt.TLoop.{out-TLoop}
 use Rattle.joint_ir.specs.Steps.{limit_of}
 use Rattle.joint_ir.specs.Statements.{after_loop}
-use Rattle.joint_machine.specs.Moments.{IsKept, IsReady, Stands, from_here}
+use Rattle.joint_machine.specs.Moments.{IsKept, IsReady, Stands, from_here, setting_of}
 use Rattle.joint_lists.specs.Lists.{after_items, after_cases, FitsItems}
-use Rattle.joint_step.specs.Walks.{setting_of, calls_in}
+use Rattle.joint_step.specs.Walks.{calls_in}
 use Rattle.joint_step.proofs.Strides.{stride}
 use Rattle.joint_step.proofs.Turns.{loop_turns}
 use Rattle.joint_step.proofs.walk.+walk.Given as goal

@@ -12,7 +12,7 @@ use Rattle.joint_ir.specs.Steps.{rows_in}
 use Rattle.joint_ir.specs.Values.{value_of}
 use Rattle.joint_ir.specs.Effects.{Effect, preceded, with_values}
 use Rattle.joint_view.specs.Halts.{unmeasured}
-use Rattle.joint_machine.specs.Moments.{InTypes, setting, state_of, left_of, told_of}
+use Rattle.joint_machine.specs.Moments.{InTypes, setting_of, state_of, left_of, told_of}
 use Rattle.joint_machine.proofs.Arguments.{values_more, values_broken, types_next}
 use Rattle.joint_machine.proofs.Flow.{broken_halts}
 use Rattle.joint_machine.proofs.machine.Machine.arguments.Goals as goal
@@ -21,11 +21,11 @@ pub returns-in_err-n-clause-finds : goal.returns-in_err-n-clause-finds
 returns-in_err-n-clause-finds c =
     let a = c.args in
     let m = a.self.now in
-    let rows = rows_of a.bounds.now.frames m.store in
+    let rows = rows_of a.at.now.bounds.now.frames m.store in
     let v = c.in_err-n.ensures.value in
     let p = err_from_is_err_and c.from_residual.result c.from_residual.ensures.1 in
     rw (p.1, p.2)
-    (λ go. broken_halts _ m (λ s c'. with_values (rows_in (setting a.pair.now a.bounds.now a.here) s) a.args.now c' (λ ns. go ns s c')) v.0 v.1
+    (λ go. broken_halts _ m (λ s c'. with_values (rows_in (setting_of a.at.now) s) a.args.now c' (λ ns. go ns s c')) v.0 v.1
     (c.loop-e.invariant.finds (left_of m) (λ ns. go ns (state_of m) (left_of m))
     ∙ values_broken rows a.args.now c.loop-e.e-index c.e-item.result v.0 (left_of m) (λ ns. go (c.loop-e.numbers ++ ns) (state_of m) (left_of m)) c.loop-e-test.true
     (sym (ap (λ (e : TExpr). value_of rows e) c.e-item.is) ∙ v.2)))
@@ -35,7 +35,7 @@ loop-e-preserved c =
     let a = c.args in
     let i = c.loop-e.e-index in
     let n = c.in_ok-n.n in
-    let rows = rows_of a.bounds.now.frames a.self.now.store in
+    let rows = rows_of a.at.now.bounds.now.frames a.self.now.store in
     let f : SFits w128 c.in_ok-n.n = search rules in
     let pushed = simp to_z-of_z at c.in_ok-push.ensures.ok in
     record {
@@ -51,7 +51,7 @@ pub returns-clause-finds : goal.returns-clause-finds
 returns-clause-finds c = λ go.
     let a = c.args in
     let m = a.self.now in
-    let rows = rows_of a.bounds.now.frames m.store in
+    let rows = rows_of a.at.now.bounds.now.frames m.store in
     ap (λ (e : Effect). preceded (told_of m) (unmeasured e))
     (c.loop-e.invariant.finds (left_of m) (λ ns. go ns (state_of m) (left_of m))
     ∙ at_drop_all (λ (xs : List TExpr). with_values rows xs (left_of m) (λ ns. go (c.loop-e.numbers ++ ns) (state_of m) (left_of m))) a.args.now c.loop-e.e-index c.loop-e-test.false

@@ -12,7 +12,7 @@ use Rattle.joint_value.specs.Answers.{IsSmall, CanOperate}
 use Rattle.joint_value.proofs.Nodes.{moved}
 use Rattle.joint_value.proofs.Numbers.{small_of, width_of}
 use Rattle.joint_value.proofs.Ranges.{can_operate}
-use Rattle.joint_machine.specs.Moments.{setting}
+use Rattle.joint_machine.specs.Moments.{setting_of}
 use Rattle.joint_machine.proofs.Flow.{finds_after, found_value}
 use Rattle.joint_machine.proofs.Values.{update_typed, right_small}
 use Rattle.joint_machine.proofs.machine.Machine.updated.Goals as goal
@@ -33,7 +33,7 @@ pub binary-requires-clause-y : goal.binary-requires-clause-y
 binary-requires-clause-y c =
     let u = c.args.update.now in
     let f : SFits w128 c.in_ok-right.right = search rules in
-    moved IsSmall _ f (right_small c.args.pair.now c.args.self.now c.args.here u c.in_ok-right.right c.requires.fits c.requires.well c.requires.ready
+    moved IsSmall _ f (right_small c.args.at.now.pair.now c.args.self.now c.args.at.now.here u c.in_ok-right.right c.requires.fits c.requires.well c.requires.ready
     (c.in_ok-right.ensures.range u.ty (update_typed c.requires.fits.scope u c.requires.fits.holds)))
 
 pub binary-requires-clause-can : goal.binary-requires-clause-can
@@ -54,7 +54,7 @@ returns c =
     let e = simp to_z-of_z at c.binary.ensures in
     record {
       finds = finds_after c.or_break.result c.args.self.now c.args.self.now c.args.self.now
-          (λ go s c'. with_value (right_value (rows_in (setting c.args.pair.now c.args.bounds.now c.args.here) s) u.right) c' (λ y. with_value (binary_value u.op u.ty u.division u.other c.args.old y) c' (λ n. go n s c')))
+          (λ go s c'. with_value (right_value (rows_in (setting_of c.args.at.now) s) u.right) c' (λ y. with_value (binary_value u.op u.ty u.division u.other c.args.old y) c' (λ n. go n s c')))
           (λ go s c'. with_value (binary_value u.op u.ty u.division u.other c.args.old c.in_ok-right.right) c' (λ n. go n s c'))
           (λ go. c.in_ok-right.ensures.finds (λ y s c'. with_value (binary_value u.op u.ty u.division u.other c.args.old y) c' (λ n. go n s c')))
           (found_value c.binary.result c.or_break.result (binary_value u.op u.ty u.division u.other c.args.old c.in_ok-right.right) c.args.self.now e c.or_break.ensures.number c.or_break.ensures.breaks);
