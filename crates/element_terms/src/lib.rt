@@ -126,7 +126,7 @@ pub fn within(
 ) -> Result<SizedTerm, AllocError>
     requires has { Has terms.old index }
     requires some { 0 < index.width }
-    requires few { index.width ≤ 64 }
+    requires wide { index.width ≤ 128 }
     requires room { length terms.old.terms + 3 ≤ 2147483648 }
     ensures { IfOk result (λ t. IsMade terms.old terms.new 1 (10 * max 33 index.width) 3 t (λ v. bit (is_within count (number signed index.width (bits v index))))) }
 {

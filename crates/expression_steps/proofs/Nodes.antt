@@ -1,6 +1,6 @@
 -- What an expression asks for and needs, by its node: `got` and the like are its parts, as the code reads them.
-use Rattle.std.proofs.Common.{◌≡◌, ℕ, ◌+◌, ◌*◌, ◌≤◌, false, List, [], ◌∷◌, Option, Some, refl, sym, ap, ◌∙◌, subst, arith}
-use Rattle.std.specs.Prelude.{ℤ, map, slice_get, if◌then◌else◌}
+use Rattle.std.proofs.Common.{◌≡◌, ℕ, zero, suc, ◌+◌, ◌*◌, ◌<◌, ◌≤◌, true, false, length, List, [], ◌∷◌, Option, Some, refl, sym, ap, ◌∙◌, subst, arith}
+use Rattle.std.specs.Prelude.{ℤ, map, slice_get, nat_lt, if◌then◌else◌}
 use denote.Hole.Carrier.{hidden}
 use Rattle.bits_core.specs.Word.{number, at_zero}
 use Rattle.word_eqs.specs.declared.term.TermId.{TermId}
@@ -10,28 +10,32 @@ use Rattle.joint_ir.specs.declared.ctype.IntType.{IntType}
 use Rattle.joint_ir.specs.declared.expr.BinaryOp.{BinaryOp}
 use Rattle.joint_ir.specs.declared.expr.LogicOp.{LogicOp}
 use Rattle.joint_ir.specs.declared.expr.LogicOp.TheVariants.{And, Or}
-use Rattle.joint_ir.specs.declared.expr.Slot.TheVariants.{BoundValue}
+use Rattle.joint_ir.specs.declared.expr.Slot.TheVariants.{Global, Local, Member, BoundValue}
 use Rattle.joint_ir.specs.declared.expr.Slot.{Slot}
 use Rattle.joint_ir.specs.declared.expr.TExpr.{TExpr}
-use Rattle.joint_ir.specs.declared.expr.TNode.{TNode, Read, Unary, Binary, Logic, Choose, Convert}
+use Rattle.joint_ir.specs.declared.expr.TNode.{TNode, Read, Index, Unary, Binary, Logic, Choose, Convert}
 use Rattle.joint_ir.specs.declared.expr.TNode.TheBlock.{hidden-the_row-TExpr-0}
 use Rattle.joint_ir.specs.declared.expr.UnaryOp.{UnaryOp}
 use Rattle.joint_ir.specs.declared.program.CProgram.{CProgram}
 use Rattle.joint_ir.specs.declared.program.PropId.{PropId}
+use Rattle.joint_ir.specs.declared.program.PropKind.TheVariants as kind
 use Rattle.joint_ir.specs.Types.{int, converted, IsType, Single}
+use Rattle.joint_ir.specs.States.{element_count}
 use Rattle.joint_ir.specs.Steps.{slot_type}
-use Rattle.joint_ir.specs.Values.{Answer, Value, Rows, and_then, first_of, is_zero, unary_value, binary_value, logic_value, node_value, value_of}
-use Rattle.joint_ir.specs.Weights.{expr_weight, node_weight, unary_weight, binary_weight, convert_weight}
-use Rattle.joint_ir.specs.WellFormed.{Scope, FitsNode, FitsExpr, FitsUnary, FitsBinary, is_bound}
+use Rattle.joint_ir.specs.Values.{Answer, Value, Rows, and_then, first_of, element_at, is_zero, unary_value, binary_value, logic_value, node_value, value_of}
+use Rattle.joint_ir.specs.Weights.{slot_length, expr_weight, node_weight, read_weight, unary_weight, binary_weight, convert_weight}
+use Rattle.joint_ir.specs.WellFormed.{Scope, FitsNode, FitsExpr, FitsUnary, FitsBinary, IsProp, IsObject, IsVisible, is_array, is_bound}
 use Rattle.sized_terms.specs.declared.SizedTerm.{SizedTerm}
 use Rattle.sized_terms.specs.Sized.{Has, Builds, IsMade, bits}
+use Rattle.element_terms.specs.Elements.{sized, AreElements}
 use Rattle.checked_terms.specs.declared.Checked.{Checked}
 use Rattle.checked_terms.specs.Checked.{stands}
-use Rattle.expression_steps.specs.declared.steps.Objects.{Objects as Terms}
+use Rattle.unrolled.specs.Elements.{terms_of}
+use Rattle.unrolled.specs.declared.Objects.{Objects as Terms}
 use Rattle.expression_steps.specs.declared.steps.Split.{Split}
-use Rattle.expression_steps.specs.declared.steps.Unrolled.{Unrolled}
+use Rattle.unrolled.specs.declared.Unrolled.{Unrolled}
 use Rattle.expression_steps.specs.Asking.{Asks, IsDone, IsSplit, IsJoined, side_of}
-use Rattle.expression_steps.specs.Objects.{terms_of, sized, AreObjects, StandFor, IsReady, AsksFor}
+use Rattle.expression_steps.specs.Objects.{numbers_of, AreObjects, StandFor, IsReady, AsksFor}
 use Rattle.expression_steps.proofs.Stretches.{checked_asks, asks_then, asks_as, logic_asks, choose_asks, there_asks}
 
 -- what an expression asked for, where it is known to fit
@@ -40,7 +44,7 @@ pub asked : (u0 u1 : Unrolled) (o : Terms) (frames : ℕ) (e : TExpr) (g t : Siz
 asked u0 u1 o frames e g t c fits objects has A = A c fits objects has
 
 pub objects_kept : (c : Scope) (g h : Graph) (o : Terms) → ((y : SizedTerm) → Has g y → Has h y) → AreObjects c g o → AreObjects c h o
-objects_kept c g h o k p = record { some = p.some; has = λ slot vis i t at. k (sized t (slot_type c.program slot).bits) (p.has slot vis i t at) }
+objects_kept c g h o k p = record { count = p.count; has = λ slot vis i t at. k (sized t (slot_type c.program slot).bits) (p.has slot vis i t at) }
 
 -- a part that fits, at a later graph and under another guard
 pub ready : (c : Scope) (g h : Graph) (o : Terms) (e : TExpr) (guard : SizedTerm) → FitsExpr c e → AreObjects c g o → ((y : SizedTerm) → Has g y → Has h y) → Has h guard → guard.width ≡ 1 → IsReady h o e guard
@@ -64,6 +68,63 @@ done_read u o frames e g slot t p is stored at c fits objects has =
     ap (λ (ty : IntType). stands ty v (sized t e.ty.bits)) F.1
     ∙ sym (first_is (number (slot_type c.program slot).signed (slot_type c.program slot).bits) v (terms_of o slot) t at)
     ∙ ap first_of (st.objects slot F.0.visible stored)))
+
+-- an object that has elements
+counted : (n : ℕ) → nat_lt 0 n ≡ true → element_count n ≡ n
+counted zero e = cc
+counted (suc n) e = refl
+
+some_count : (n : ℕ) → 0 < element_count n
+some_count zero = omega arith
+some_count (suc n) = omega arith
+
+pub some_terms : (c : Scope) (g : Graph) (o : Terms) (slot : Slot) → AreObjects c g o → IsVisible c slot → is_bound slot ≡ false → 0 < length (terms_of o slot)
+some_terms c g o slot objects vis stored = let e = objects.count slot vis stored in let p = some_count (slot_length c.program slot) in omega arith
+
+pub array_stored : (c : Scope) (slot : Slot) → IsObject c slot true → is_bound slot ≡ false
+array_stored c (Global i) o = refl
+array_stored c (Local i) o = refl
+array_stored c (Member i) o = refl
+array_stored c BoundValue o = let e : false ≡ true = o.shape in cc
+
+-- an element of an array
+module _ (e a got : TExpr) (slot : Slot) (p : PropId) (is : e.node ≡ Index slot a p) (is_a : got ≡ a) where
+  index_node : e.node ≡ Index slot got p
+  index_node = is ∙ ap (λ x. Index slot x p) (sym is_a)
+
+  pub fits_index : (c : Scope) → FitsExpr c e → IsObject c slot true × (e.ty ≡ slot_type c.program slot) × IsProp c.program kind.Bounds p × FitsExpr c got
+  unfolding hidden-the_row-TExpr-0 hidden
+  fits_index c f = subst (FitsNode c e.ty) index_node f
+
+  value_index : (rows : Rows) → value_of rows e ≡ and_then (value_of rows got) (element_at (rows slot) p)
+  unfolding hidden-the_row-TExpr-0 hidden
+  value_index rows = ap (node_value rows e.ty) index_node
+
+  weight_index : (c : CProgram) → expr_weight c e ≡ expr_weight c got + read_weight (slot_length c slot) got.ty.bits e.ty.bits + 4
+  unfolding hidden-the_row-TExpr-0 hidden
+  weight_index c = ap (node_weight c e.ty) index_node
+
+  pub array_terms : (c : Scope) (g : Graph) (o : Terms) → FitsExpr c e → AreObjects c g o → AreElements g (terms_of o slot) e.ty.bits
+  array_terms c g o fits objects k t at =
+      let f = fits_index c fits in
+      subst (λ (ty : IntType). Has g (sized t ty.bits)) (sym f.1) (objects.has slot f.0.visible k t at)
+
+  pub done_index : (u0 u1 u2 : Unrolled) (o : Terms) (frames : ℕ) (g x : SizedTerm) (r : Checked) → AsksFor u0 u1 o frames got g x →
+      IsDone u1 u2 e.ty (8 * read_weight (length (terms_of o slot)) got.ty.bits e.ty.bits) (3 + 3 * length (terms_of o slot)) g r (λ v. element_at (numbers_of (number e.ty.signed e.ty.bits) v (terms_of o slot)) p (stands got.ty v x)) →
+      AsksFor u0 u2 o frames e g r.value
+  done_index u0 u1 u2 o frames g x r A D c fits objects has =
+      let holds = StandFor c frames o in
+      let w = weight_index c.program in
+      let f = fits_index c fits in
+      let row : ℕ = 8 * read_weight (length (terms_of o slot)) got.ty.bits e.ty.bits in
+      let n : length (terms_of o slot) ≡ slot_length c.program slot = objects.count slot f.0.visible (array_stored c slot f.0) ∙ counted (slot_length c.program slot) f.0.shape in
+      let row_is : row ≡ 8 * read_weight (slot_length c.program slot) got.ty.bits e.ty.bits = ap (λ k. 8 * read_weight k got.ty.bits e.ty.bits) n in
+      asks_as Rows u0 u2 e.ty (8 * expr_weight c.program got + row) (8 * expr_weight c.program e) g r.value holds (λ v rows. and_then (value_of rows got) (element_at (rows slot) p)) (λ v rows. value_of rows e) (omega arith)
+      (λ v rows. sym (value_index rows))
+      (asks_then Rows u0 u1 u2 got.ty e.ty (8 * expr_weight c.program got) row g x r.value holds (λ v rows. value_of rows got) (λ v rows. element_at (rows slot) p) (A c f.3 objects has)
+      (checked_asks Rows u1 u2 u2.terms e.ty row (3 + 3 * length (terms_of o slot)) g r holds (λ v rows. element_at (rows slot) p (stands got.ty v x)) (λ v. element_at (numbers_of (number e.ty.signed e.ty.bits) v (terms_of o slot)) p (stands got.ty v x))
+      (λ v q rows h.
+      ap (λ l. element_at l p (stands got.ty v x)) (ap (λ (ty : IntType). numbers_of (number ty.signed ty.bits) v (terms_of o slot)) f.1 ∙ h.objects slot f.0.visible (array_stored c slot f.0))) D.checked refl D.list))
 
 -- a unary operator
 module _ (e a got : TExpr) (op : UnaryOp) (p : Option PropId) (is : e.node ≡ Unary op a p) (is_a : got ≡ a) where

@@ -25,7 +25,7 @@ use Rattle.checked_terms.specs.declared.Check.{Check}
 use Rattle.checked_terms.specs.declared.Checked.{Checked}
 use Rattle.checked_terms.specs.Checked.{stands, test_then, HasCheck, check_gates, IsChecked}
 use Rattle.checked_terms.proofs.Works.{not_bit, zero_of, truth_is}
-use Rattle.expression_steps.specs.declared.steps.Unrolled.{Unrolled}
+use Rattle.unrolled.specs.declared.Unrolled.{Unrolled}
 use Rattle.expression_steps.specs.declared.steps.Split.{Split}
 use Rattle.expression_steps.specs.Asking.{check_steps, IsPushed, Gives, Asks, is_set, IsSplit, IsJoined, side_of, joined_by}
 

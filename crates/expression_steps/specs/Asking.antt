@@ -19,7 +19,7 @@ use Rattle.sized_terms.specs.Sized.{Has, Builds, bits}
 use Rattle.checked_terms.specs.declared.Check.{Check}
 use Rattle.checked_terms.specs.declared.Checked.{Checked}
 use Rattle.checked_terms.specs.Checked.{IsChecked}
-use Rattle.expression_steps.specs.declared.steps.Unrolled.{Unrolled}
+use Rattle.unrolled.specs.declared.Unrolled.{Unrolled}
 use Rattle.expression_steps.specs.declared.steps.Split.{Split}
 
 -- the step of a check under a guard

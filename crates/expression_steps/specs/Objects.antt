@@ -7,29 +7,22 @@ use Rattle.word_eqs.specs.Meaning.{Values}
 use Rattle.joint_ir.specs.declared.expr.Slot.{Slot}
 use Rattle.joint_ir.specs.declared.expr.Slot.TheVariants.{Global, Local, Member, BoundValue}
 use Rattle.joint_ir.specs.declared.expr.TExpr.{TExpr}
+use Rattle.joint_ir.specs.States.{element_count}
 use Rattle.joint_ir.specs.Steps.{slot_type}
 use Rattle.joint_ir.specs.Values.{Rows, value_of}
-use Rattle.joint_ir.specs.Weights.{expr_weight}
+use Rattle.joint_ir.specs.Weights.{expr_weight, slot_length}
 use Rattle.joint_ir.specs.WellFormed.{Scope, IsVisible, FitsExpr, is_bound}
 use Rattle.sized_terms.specs.declared.SizedTerm.{SizedTerm}
 use Rattle.sized_terms.specs.Sized.{Has}
-use Rattle.expression_steps.specs.declared.steps.Objects.{Objects as Terms}
-use Rattle.expression_steps.specs.declared.steps.Unrolled.{Unrolled}
+use Rattle.element_terms.specs.Elements.{sized}
+use Rattle.unrolled.specs.declared.Objects.{Objects as Terms}
+use Rattle.unrolled.specs.Elements.{terms_of}
+use Rattle.unrolled.specs.declared.Unrolled.{Unrolled}
 use Rattle.expression_steps.specs.Asking.{Asks}
 
--- the terms of an object's elements
-abbrev pub terms_of : Terms → Slot → List TermId
-terms_of o (Global i) = slice_index_or o.globals.items i []
-terms_of o (Local i) = slice_index_or o.locals.items i []
-terms_of o (Member i) = slice_index_or o.members.items i []
-terms_of o BoundValue = []
-
-abbrev pub sized : TermId → ℕ → SizedTerm
-sized t w = record { term = t; width = w }
-
--- the objects that are visible have terms for their elements, of their types' widths
+-- each object that is visible has as many terms as elements, of its type's width
 pub record AreObjects (c : Scope) (g : Graph) (o : Terms) : Type 0 where
-  pub some : (slot : Slot) → IsVisible c slot → is_bound slot ≡ false → 0 < length (terms_of o slot)
+  pub count : (slot : Slot) → IsVisible c slot → is_bound slot ≡ false → length (terms_of o slot) ≡ element_count (slot_length c.program slot)
   pub has : (slot : Slot) → IsVisible c slot → (k : ℕ) (t : TermId) → slice_get (terms_of o slot) k ≡ Some t → Has g (sized t (slot_type c.program slot).bits)
 
 -- the numbers of terms

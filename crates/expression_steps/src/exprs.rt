@@ -2,13 +2,16 @@
 
 ghost use Rattle.std.specs.Prelude.{◌≡◌, ◌<◌, length, slice_get, Some, IfOk, false};
 ghost use Rattle.joint_ir.specs.WellFormed.{is_bound};
-ghost use Rattle.expression_steps.specs.Objects.{AsksFor, IsReady, terms_of};
+ghost use Rattle.unrolled.specs.Elements.{terms_of};
+ghost use Rattle.expression_steps.specs.Objects.{AsksFor, IsReady};
 
+use crate::elements;
 use crate::parts::{self, Typed};
-use crate::steps::{Objects, Unrolled, split_by};
+use crate::steps::split_by;
 use joint_ir::{Slot, TExpr, TNode};
 use sized_terms::SizedTerm;
 use std::alloc::AllocError;
+use unrolled::{Objects, Unrolled};
 use word_eqs::TermId;
 
 /// The term of an object that is no array.
@@ -17,12 +20,7 @@ fn first(objects: &Objects, slot: Slot) -> TermId
     requires some { 0 < length (terms_of objects.now slot) }
     ensures { slice_get (terms_of objects.now slot) 0 ≡ Some result }
 {
-    match slot {
-        Slot::Global(i) => objects.globals[i as usize].as_slice()[0],
-        Slot::Local(i) => objects.locals[i as usize].as_slice()[0],
-        Slot::Member(i) => objects.members[i as usize].as_slice()[0],
-        Slot::BoundValue => unreachable!(),
-    }
+    objects.elements(slot)[0]
 }
 
 /// The terms and the steps of an expression under a guard: the term of its value, with the checks before it, operands from left
@@ -54,8 +52,6 @@ pub fn expr(
                 width: e.ty.bits,
             }),
         },
-        // Not made yet: it ends as want of memory does.
-        TNode::Index(..) => Err(AllocError),
         TNode::Unary(op, a, prop) => {
             let operand = a.get();
             let x = expr(net, objects, frames, operand, guard)?;
@@ -97,6 +93,13 @@ pub fn expr(
             let operand = a.get();
             let x = expr(net, objects, frames, operand, guard)?;
             let r = parts::converted(net, operand.ty, e.ty, x, guard)?;
+            Ok(r.value)
+        }
+        TNode::Index(slot, a, prop) => {
+            let index = a.get();
+            let x = expr(net, objects, frames, index, guard)?;
+            let row = objects.elements(*slot);
+            let r = elements::element(net, row, index.ty, e.ty, *prop, x, guard)?;
             Ok(r.value)
         }
     }

@@ -10,13 +10,14 @@ ghost use Rattle.checked_terms.specs.Checked.{stands, plain as plain_of};
 ghost use Rattle.c_operator_terms.specs.Operators.{IsUnary, IsBinary};
 ghost use Rattle.expression_steps.specs.Asking.{IsDone, IsJoined, side_of, join_op_of};
 
-use crate::steps::{Split, Unrolled, push_checks, room};
+use crate::steps::{Split, push_checks};
 use bits_core::Op2;
 use checked_terms::Checked;
 use joint_ir::program::PropId;
 use joint_ir::{BinaryOp, IntType, LogicOp, UnaryOp};
 use sized_terms::SizedTerm;
 use std::alloc::AllocError;
+use unrolled::{Unrolled, room};
 
 fn plain(value: SizedTerm) -> Checked
     ensures { result ≡ plain_of value }

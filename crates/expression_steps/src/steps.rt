@@ -8,22 +8,8 @@ use bits_core::{Op1, Op2};
 use checked_terms::{Check, Checked};
 use sized_terms::SizedTerm;
 use std::alloc::AllocError;
-use word_eqs::{Act, GuardedList, Step, TermIds, Terms};
-
-/// Terms and steps.
-#[derive(Drop)]
-pub struct Unrolled {
-    pub terms: Terms,
-    pub list: GuardedList,
-}
-
-/// A term for each element of each object.
-#[derive(Drop)]
-pub struct Objects {
-    pub globals: Vec<TermIds>,
-    pub locals: Vec<TermIds>,
-    pub members: Vec<TermIds>,
-}
+use unrolled::{ROOM, Unrolled, room};
+use word_eqs::{Act, Step};
 
 /// Whether a term isn't 0, with a guard for where it isn't, and one for where it is.
 #[derive(Clone, Copy, Debug, PartialEq, Eq)]
@@ -31,20 +17,6 @@ pub struct Split {
     pub set: SizedTerm,
     pub taken: SizedTerm,
     pub other: SizedTerm,
-}
-
-/// The number of terms, and of steps, that there may be.
-const ROOM: u32 = 2147483648;
-
-/// Tells whether there is room for so many terms: 2^31 of them take more memory than there is.
-pub fn room(net: &Unrolled, count: u32) -> Result<(), AllocError>
-    requires { count ≤ 1073741824 }
-    ensures { OnOk result (length net.now.terms.terms + count ≤ 2147483648) }
-{
-    if net.terms.len() > ROOM - count {
-        return Err(AllocError);
-    }
-    Ok(())
 }
 
 /// Pushes the step of a check, if there is one.

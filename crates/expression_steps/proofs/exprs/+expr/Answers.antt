@@ -1,5 +1,7 @@
-use Rattle.std.proofs.Common.{rules, false, ◌≡◌, refl, sym, ap, ◌∙◌, subst, arith}
+use Rattle.std.proofs.Common.{List, length, ◌+◌, ◌*◌, ◌<◌, rules, false, ◌≡◌, refl, sym, ap, ◌∙◌, subst, arith}
 use Rattle.std.proofs.lemmas.Grind.{common_steps}
+use Rattle.bits_core.specs.Word.{number}
+use Rattle.word_eqs.specs.declared.term.TermId.{TermId}
 use Rattle.joint_ir.specs.declared.ctype.IntType.{IntType}
 use Rattle.joint_ir.specs.declared.expr.Slot.{Slot}
 use Rattle.joint_ir.specs.declared.expr.Slot.TheVariants.{BoundValue}
@@ -7,9 +9,13 @@ use Rattle.joint_ir.specs.declared.expr.TNode.{the_lemmas, TNode, Read}
 use Rattle.joint_ir.specs.WellFormed.{FitsNode, is_bound}
 use Rattle.sized_terms.specs.declared.SizedTerm.{SizedTerm}
 use Rattle.sized_terms.specs.Sized.{Has}
-use Rattle.expression_steps.specs.Asking.{side_of}
-use Rattle.expression_steps.specs.Objects.{AsksFor}
-use Rattle.expression_steps.proofs.Nodes.{asked, ready, side_has, side_width, bound_type, objects_kept, done_read, fits_unary, done_unary, fits_binary, done_binary, fits_logic, done_logic, fits_choose, done_choose, fits_convert, done_convert}
+use Rattle.joint_ir.specs.Values.{element_at}
+use Rattle.joint_ir.specs.Weights.{read_weight}
+use Rattle.checked_terms.specs.Checked.{stands}
+use Rattle.element_terms.specs.Elements.{AreElements}
+use Rattle.expression_steps.specs.Asking.{side_of, IsDone}
+use Rattle.expression_steps.specs.Objects.{AsksFor, numbers_of}
+use Rattle.expression_steps.proofs.Nodes.{asked, ready, some_terms, array_stored, array_terms, fits_index, done_index, side_has, side_width, bound_type, objects_kept, done_read, fits_unary, done_unary, fits_binary, done_binary, fits_logic, done_logic, fits_choose, done_choose, fits_convert, done_convert}
 use Rattle.expression_steps.proofs.exprs.+expr.Goals as goal
 
 pub literal-requires-in-BoundValue-clause-ty : goal.literal-requires-in-BoundValue-clause-ty
@@ -165,6 +171,42 @@ converted-requires-clause-width t c =
 pub converted-requires-clause-ty : goal.converted-requires-clause-ty
 converted-requires-clause-ty t c =
     (fits_convert c.args.e.now c.in-Convert.a c.get-operand-in-Convert.result.now c.in-Convert.is c.get-operand-in-Convert.ensures c.requires.scope c.requires.fits).0
+
+pub expr-requires-in-Index : goal.expr-requires-in-Index
+expr-requires-in-Index t c =
+    (grind (the_lemmas, arith, common_steps), ready c.requires.scope c.args.net.now.terms c.args.net.now.terms c.args.objects.now c.get-index.result.now c.args.guard (fits_index c.args.e.now c.in-Index.a c.get-index.result.now c.in-Index.slot c.in-Index.prop c.in-Index.is c.get-index.ensures c.requires.scope c.requires.fits).3 c.requires.objects (λ y p. p) c.requires.there c.requires.bit)
+
+pub elements-row-requires-clause-stored : goal.elements-row-requires-clause-stored
+elements-row-requires-clause-stored t c = array_stored c.requires.scope c.in-Index.slot (fits_index c.args.e.now c.in-Index.a c.get-index.result.now c.in-Index.slot c.in-Index.prop c.in-Index.is c.get-index.ensures c.requires.scope c.requires.fits).0
+
+pub elements-row-requires-clause-some : goal.elements-row-requires-clause-some
+elements-row-requires-clause-some t c =
+    some_terms c.requires.scope c.args.net.now.terms c.args.objects.now c.in-Index.slot c.requires.objects (fits_index c.args.e.now c.in-Index.a c.get-index.result.now c.in-Index.slot c.in-Index.prop c.in-Index.is c.get-index.ensures c.requires.scope c.requires.fits).0.visible (array_stored c.requires.scope c.in-Index.slot (fits_index c.args.e.now c.in-Index.a c.get-index.result.now c.in-Index.slot c.in-Index.prop c.in-Index.is c.get-index.ensures c.requires.scope c.requires.fits).0)
+
+pub element-requires-clause-has : goal.element-requires-clause-has
+element-requires-clause-has t c =
+    let a = asked c.args.net.now c.expr-in-Index.new.net c.args.objects.now c.args.frames c.get-index.result.now c.args.guard c.in_ok-x-in-Index.x c.requires.scope (fits_index c.args.e.now c.in-Index.a c.get-index.result.now c.in-Index.slot c.in-Index.prop c.in-Index.is c.get-index.ensures c.requires.scope c.requires.fits).3 c.requires.objects c.requires.there c.in_ok-x-in-Index.ensures in
+    a.has
+
+pub element-requires-clause-width : goal.element-requires-clause-width
+element-requires-clause-width t c =
+    let a = asked c.args.net.now c.expr-in-Index.new.net c.args.objects.now c.args.frames c.get-index.result.now c.args.guard c.in_ok-x-in-Index.x c.requires.scope (fits_index c.args.e.now c.in-Index.a c.get-index.result.now c.in-Index.slot c.in-Index.prop c.in-Index.is c.get-index.ensures c.requires.scope c.requires.fits).3 c.requires.objects c.requires.there c.in_ok-x-in-Index.ensures in
+    a.width
+
+pub element-requires-clause-filled : goal.element-requires-clause-filled
+element-requires-clause-filled t c =
+    subst (λ (l : List TermId). 0 < length l) (sym c.elements-row.ensures) (some_terms c.requires.scope c.args.net.now.terms c.args.objects.now c.in-Index.slot c.requires.objects (fits_index c.args.e.now c.in-Index.a c.get-index.result.now c.in-Index.slot c.in-Index.prop c.in-Index.is c.get-index.ensures c.requires.scope c.requires.fits).0.visible (array_stored c.requires.scope c.in-Index.slot (fits_index c.args.e.now c.in-Index.a c.get-index.result.now c.in-Index.slot c.in-Index.prop c.in-Index.is c.get-index.ensures c.requires.scope c.requires.fits).0))
+
+pub element-requires-clause-elements : goal.element-requires-clause-elements
+element-requires-clause-elements t c =
+    let a = asked c.args.net.now c.expr-in-Index.new.net c.args.objects.now c.args.frames c.get-index.result.now c.args.guard c.in_ok-x-in-Index.x c.requires.scope (fits_index c.args.e.now c.in-Index.a c.get-index.result.now c.in-Index.slot c.in-Index.prop c.in-Index.is c.get-index.ensures c.requires.scope c.requires.fits).3 c.requires.objects c.requires.there c.in_ok-x-in-Index.ensures in
+    subst (λ (l : List TermId). AreElements c.expr-in-Index.new.net.terms l c.args.e.now.ty.bits) (sym c.elements-row.ensures)
+    (array_terms c.args.e.now c.in-Index.a c.get-index.result.now c.in-Index.slot c.in-Index.prop c.in-Index.is c.get-index.ensures c.requires.scope c.expr-in-Index.new.net.terms c.args.objects.now c.requires.fits (objects_kept c.requires.scope c.args.net.now.terms c.expr-in-Index.new.net.terms c.args.objects.now a.builds.kept c.requires.objects))
+
+pub returns-in_ok-r-in-Index : goal.returns-in_ok-r-in-Index
+returns-in_ok-r-in-Index t c =
+    done_index c.args.e.now c.in-Index.a c.get-index.result.now c.in-Index.slot c.in-Index.prop c.in-Index.is c.get-index.ensures c.args.net.now c.expr-in-Index.new.net c.element.new.net c.args.objects.now c.args.frames c.args.guard c.in_ok-x-in-Index.x c.in_ok-r-in-Index.r c.in_ok-x-in-Index.ensures
+    (subst (λ (l : List TermId). IsDone c.expr-in-Index.new.net c.element.new.net c.args.e.now.ty (8 * read_weight (length l) c.get-index.result.now.ty.bits c.args.e.now.ty.bits) (3 + 3 * length l) c.args.guard c.in_ok-r-in-Index.r (λ v. element_at (numbers_of (number c.args.e.now.ty.signed c.args.e.now.ty.bits) v l) c.in-Index.prop (stands c.get-index.result.now.ty v c.in_ok-x-in-Index.x))) c.elements-row.ensures c.in_ok-r-in-Index.ensures)
 
 pub returns-in_default : goal.returns-in_default
 returns-in_default t c =
