@@ -2,6 +2,7 @@
 use Rattle.std.proofs.Common.{◌≡◌, ◌≢◌, ℕ, ◌<◌, ◌≤◌, List, length, Option, None, Some, inl, inr, ap, sym, ◌∙◌, subst, arith, refl, true}
 use Rattle.std.specs.Prelude.{IfSome, string_bytes}
 use Rattle.io_edge.specs.Faults.{Rose}
+use Rattle.io_edge.specs.Files.{Reading}
 use Rattle.io_edge.specs.declared.reading.ReadEnd.{ReadEnd}
 use Rattle.io_edge.specs.declared.reading.ReadEnd.TheVariants as ends
 use Rattle.src_text.specs.declared.refusal.Lang.TheVariants.{C, V}
@@ -14,7 +15,7 @@ use Rattle.hwcbmc_core.specs.declared.sources.Counter.{Counter}
 use Rattle.hwcbmc_core.specs.Sources.{IsProgram, IsCounter}
 use Rattle.hwcbmc_core.proofs.SourceLemmas.{same_program, same_counter}
 use Rattle.hwcbmc_core.specs.Forms.{fit_forms}
-use Rattle.hwcbmc_core.specs.Answers.{Reading, FitsLength, AreRead, RefusesTexts, c_refused, v_refused, options_unsupported, c_unsupported, v_unsupported, c_too_long, v_too_long, of_texts, unread, HoldsOf, Judges, IsTraceOfBreak, IsJudged, IsRightFor}
+use Rattle.hwcbmc_core.specs.Answers.{FitsLength, AreRead, RefusesTexts, c_refused, v_refused, options_unsupported, c_unsupported, v_unsupported, c_too_long, v_too_long, of_texts, unread, HoldsOf, Judges, IsTraceOfBreak, IsJudged, IsRightFor}
 use Rattle.hwcbmc_core.specs.Runs.{Property, CanBreak}
 use Rattle.hwcbmc_core.specs.Trees.{HasTreeIn, IsRefused}
 

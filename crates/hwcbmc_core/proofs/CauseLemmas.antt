@@ -2,15 +2,16 @@
 use Rattle.std.proofs.Common.{◌≡◌, ◌≢◌, ℕ, ◌⊎◌, inl, inr, List, Option, None, Some, ap, arith}
 use Rattle.std.specs.Prelude.{string_bytes}
 use Rattle.io_edge.specs.Faults.{Rose}
-use Rattle.io_edge.specs.Sink.{Appends}
+use Rattle.io_edge.specs.Files.{Reading}
+use Rattle.io_edge.specs.Sink.{Stream, Appends}
 use Rattle.src_text.specs.declared.refusal.Refusal.{Refusal}
 use Rattle.command_options.specs.declared.asked.Options.{Options}
 use Rattle.hwcbmc_core.specs.declared.answer.Answer.{Answer}
 use Rattle.hwcbmc_core.specs.declared.answer.Answer.TheVariants.{Usage, ReadFault, Refused, Failed, Successful, Memory}
 use Rattle.command_options.specs.Options.{options_of}
 use Rattle.hwcbmc_core.specs.Runs.{Property, CanBreak}
-use Rattle.hwcbmc_core.specs.Answers.{Reading, NoFault, IsFirstRefusal, c_too_long, v_too_long, of_texts, Judges, IsTraceOfBreak, IsRight}
-use Rattle.hwcbmc_core.specs.Delivery.{Stream, IsDelivered, IsSentAs, message_of}
+use Rattle.hwcbmc_core.specs.Answers.{NoFault, IsFirstRefusal, c_too_long, v_too_long, of_texts, Judges, IsTraceOfBreak, IsRight}
+use Rattle.hwcbmc_core.specs.Delivery.{IsDelivered, IsSentAs, message_of}
 
 -- A status other than the answer's own and 8 isn't given.
 not_given : (text : List ℕ) (own given other : ℕ) (old new : Stream) → IsSentAs text own given old new → given ≡ other → other ≢ own → other ≢ 8 → ⊥

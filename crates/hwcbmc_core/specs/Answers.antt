@@ -2,6 +2,7 @@
 use Rattle.std.specs.Prelude.{◌≡◌, ℕ, ◌<◌, ◌≤◌, ◌⊎◌, List, length, Option, None, Some, IfSome, true, false}
 use Rattle.std.specs.String.{string_bytes}
 use Rattle.io_edge.specs.Faults.{Rose}
+use Rattle.io_edge.specs.Files.{Reading}
 use Rattle.src_text.specs.declared.refusal.Refusal.{Refusal}
 use Rattle.src_text.specs.declared.refusal.Lang.{Lang}
 use Rattle.src_text.specs.declared.refusal.Lang.TheVariants.{C, V}
@@ -20,13 +21,6 @@ use Rattle.hwcbmc_core.specs.Sources.{IsProgram, IsCounter}
 use Rattle.hwcbmc_core.specs.Trees.{HasTreeIn, IsRefused}
 use Rattle.hwcbmc_core.specs.Runs.{Property, Broken, run_of, CanBreak}
 use Rattle.hwcbmc_core.specs.Trace.{trace_text}
-
--- what the files tell of their reading: the name last started, the bytes taken of it and its faults, and all faults
-pub record Reading : Type 0 where
-  pub started : Option (List ℕ)
-  pub taken : ℕ
-  pub faults_since_start : ℕ
-  pub faults : ℕ
 
 -- a refusal at the beginning of a text
 abbrev pub at_beginning : Lang → Kind → Refusal

@@ -1,8 +1,8 @@
 -- The text and the status of an answer, and how they are delivered.
-use Rattle.std.specs.Prelude.{◌≡◌, ℕ, ◌⊎◌, List, ◌++◌, Option, codes, decimal}
+use Rattle.std.specs.Prelude.{◌≡◌, ℕ, ◌⊎◌, List, ◌++◌, codes, decimal}
 use Rattle.std.specs.String.{string_bytes}
 use Rattle.io_edge.specs.Faults.{Rose}
-use Rattle.io_edge.specs.Sink.{Appends, AppendsPart}
+use Rattle.io_edge.specs.Sink.{Stream, Appends, AppendsPart}
 use Rattle.src_text.specs.Kind.{text_of}
 use Rattle.hwcbmc_core.specs.declared.answer.Answer.{Answer}
 use Rattle.hwcbmc_core.specs.declared.answer.Answer.TheVariants.{Usage, ReadFault, Refused, Failed, Successful, Memory}
@@ -25,11 +25,6 @@ message_of (Refused file refusal) =
 message_of (Failed trace) = string_bytes trace
 message_of Successful = codes "VERIFICATION SUCCESSFUL\n"
 message_of Memory = codes "hwcbmc: out of memory\n"
-
--- a stream: what was written to it, where that is told, and its faults
-pub record Stream : Type 0 where
-  pub written : Option (List ℕ)
-  pub faults : ℕ
 
 -- All of the text went out.
 pub record IsSent (text : List ℕ) (old new : Stream) : Type 0 where

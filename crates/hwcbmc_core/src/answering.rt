@@ -19,10 +19,7 @@ use std::alloc::{AllocError, Global};
 /// The words, then the files, then the verdict: the first that stands in the way is the answer.
 pub fn answer_for<F: Files>(alloc: Global, words: &[String], files: &mut F) -> Answer
     ensures told { F.told files.new ≡ F.told files.old }
-    ensures right { IsRight (map string_bytes words.now) (F.told files.old)
-        (record { started = F.started files.old; taken = F.taken files.old; faults_since_start = F.faults_since_start files.old; faults = F.read_faults files.old })
-        (record { started = F.started files.new; taken = F.taken files.new; faults_since_start = F.faults_since_start files.new; faults = F.read_faults files.new })
-        result }
+    ensures right { IsRight (map string_bytes words.now) (F.told files.old) (F.reading files.old) (F.reading files.new) result }
 {
     match options(alloc, words) {
         Ok(options) => read_files(alloc, options, files),
@@ -34,10 +31,7 @@ pub fn answer_for<F: Files>(alloc: Global, words: &[String], files: &mut F) -> A
 /// Reads the C file to its end, and then the Verilog file.
 fn read_files<F: Files>(alloc: Global, options: Options, files: &mut F) -> Answer
     ensures told { F.told files.new ≡ F.told files.old }
-    ensures right { IsRightFor options (F.told files.old)
-        (record { started = F.started files.old; taken = F.taken files.old; faults_since_start = F.faults_since_start files.old; faults = F.read_faults files.old })
-        (record { started = F.started files.new; taken = F.taken files.new; faults_since_start = F.faults_since_start files.new; faults = F.read_faults files.new })
-        result }
+    ensures right { IsRightFor options (F.told files.old) (F.reading files.old) (F.reading files.new) result }
 {
     let c_text = match read_all(alloc, files, options.c_file.text()) {
         Ok(text) => text,

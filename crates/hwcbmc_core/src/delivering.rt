@@ -34,12 +34,8 @@ const STATUS_USAGE: u8 = 64;
 /// answer's own, but for a text that can't be made or written. Only a text that names a file has to
 /// be made.
 pub fn deliver<O: Sink, E: Sink>(alloc: Global, answer: &Answer, out: &mut O, err: &mut E) -> u8
-    ensures { IsDelivered answer.now result
-        (record { written = O.written out.old; faults = O.faults out.old }) (record { written = O.written out.new; faults = O.faults out.new })
-        (record { written = E.written err.old; faults = E.faults err.old }) (record { written = E.written err.new; faults = E.faults err.new })
-        ⊎ (IsComposed answer.now × IsDelivered Answer.Memory result
-        (record { written = O.written out.old; faults = O.faults out.old }) (record { written = O.written out.new; faults = O.faults out.new })
-        (record { written = E.written err.old; faults = E.faults err.old }) (record { written = E.written err.new; faults = E.faults err.new })) }
+    ensures { IsDelivered answer.now result (O.stream out.old) (O.stream out.new) (E.stream err.old) (E.stream err.new)
+        ⊎ (IsComposed answer.now × IsDelivered Answer.Memory result (O.stream out.old) (O.stream out.new) (E.stream err.old) (E.stream err.new)) }
 {
     match answer {
         Answer::Usage => send(err, USAGE, STATUS_USAGE),
@@ -55,8 +51,7 @@ pub fn deliver<O: Sink, E: Sink>(alloc: Global, answer: &Answer, out: &mut O, er
 
 /// Writes a text, and answers the status, or that of a write fault.
 fn send<K: Sink>(sink: &mut K, text: &str, status: u8) -> u8
-    ensures { IsSentAs text.now status result
-        (record { written = K.written sink.old; faults = K.faults sink.old }) (record { written = K.written sink.new; faults = K.faults sink.new }) }
+    ensures { IsSentAs text.now status result (K.stream sink.old) (K.stream sink.new) }
 {
     match write_all(sink, text.as_bytes()) {
         Ok(()) => status,
@@ -67,10 +62,8 @@ fn send<K: Sink>(sink: &mut K, text: &str, status: u8) -> u8
 /// Writes a text that had to be made first.
 fn send_made<K: Sink>(sink: &mut K, text: Result<String, AllocError>, status: u8) -> u8
     ensures { MatchResult text
-        (λ text. IsSentAs (string_bytes text) status result
-        (record { written = K.written sink.old; faults = K.faults sink.old }) (record { written = K.written sink.new; faults = K.faults sink.new }))
-        (λ _. IsSentAs (message_of Answer.Memory) 9 result
-        (record { written = K.written sink.old; faults = K.faults sink.old }) (record { written = K.written sink.new; faults = K.faults sink.new })) }
+        (λ text. IsSentAs (string_bytes text) status result (K.stream sink.old) (K.stream sink.new))
+        (λ _. IsSentAs (message_of Answer.Memory) 9 result (K.stream sink.old) (K.stream sink.new)) }
 {
     match text {
         Ok(text) => send(sink, text.as_str(), status),

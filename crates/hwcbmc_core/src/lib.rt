@@ -49,34 +49,24 @@ pub fn run<F: Files, O: Sink, E: Sink>(
     err: &mut E,
 ) -> u8
     ensures answered { (answer : Answer)
-        × IsRight (map string_bytes words.now) (F.told files.old)
-        (record { started = F.started files.old; taken = F.taken files.old; faults_since_start = F.faults_since_start files.old; faults = F.read_faults files.old })
-        (record { started = F.started files.new; taken = F.taken files.new; faults_since_start = F.faults_since_start files.new; faults = F.read_faults files.new })
-        answer
-        × IsDelivered answer result
-        (record { written = O.written out.old; faults = O.faults out.old })
-        (record { written = O.written out.new; faults = O.faults out.new })
-        (record { written = E.written err.old; faults = E.faults err.old })
-        (record { written = E.written err.new; faults = E.faults err.new }) }
+        × IsRight (map string_bytes words.now) (F.told files.old) (F.reading files.old) (F.reading files.new) answer
+        × IsDelivered answer result (O.stream out.old) (O.stream out.new) (E.stream err.old) (E.stream err.new) }
 
     // What that says of each status.
     ensures usage { result ≡ 64 → options_of (map string_bytes words.now) ≡ None }
     ensures refused { result ≡ 6 → (options : _) × (file : List ℕ) × (refusal : _) × (options_of (map string_bytes words.now) ≡ Some options)
-        × IsFirstRefusal options (F.told files.old)
-        (record { started = F.started files.old; taken = F.taken files.old; faults_since_start = F.faults_since_start files.old; faults = F.read_faults files.old })
-        (record { started = F.started files.new; taken = F.taken files.new; faults_since_start = F.faults_since_start files.new; faults = F.read_faults files.new })
-        file refusal
-        × Appends (E.written err.old) (E.written err.new) (message_of (Answer.Refused file refusal)) }
+        × IsFirstRefusal options (F.told files.old) (F.reading files.old) (F.reading files.new) file refusal
+        × Appends (E.stream err.old).written (E.stream err.new).written (message_of (Answer.Refused file refusal)) }
     ensures successful { result ≡ 0 → (options : _) × (options_of (map string_bytes words.now) ≡ Some options)
         × Judges options (F.told files.old) (λ program counter. (property : _) → ¬ (CanBreak program counter options.bounds property)) }
     ensures failed { result ≡ 10 → (options : _) × (trace : List ℕ) × (options_of (map string_bytes words.now) ≡ Some options)
         × Judges options (F.told files.old) (λ program counter. IsTraceOfBreak program counter options trace)
-        × Appends (O.written out.old) (O.written out.new) trace }
-    ensures write_fault { result ≡ 8 → Rose (O.faults out.old) (O.faults out.new) ⊎ Rose (E.faults err.old) (E.faults err.new) }
+        × Appends (O.stream out.old).written (O.stream out.new).written trace }
+    ensures write_fault { result ≡ 8 → Rose (O.stream out.old).faults (O.stream out.new).faults ⊎ Rose (E.stream err.old).faults (E.stream err.new).faults }
 
     // No fault is passed over.
-    ensures no_write_fault { result ≢ 8 → (O.faults out.new ≡ O.faults out.old) × (E.faults err.new ≡ E.faults err.old) }
-    ensures no_read_fault { result ≢ 7 → result ≢ 8 → result ≢ 9 → F.read_faults files.new ≡ F.read_faults files.old }
+    ensures no_write_fault { result ≢ 8 → ((O.stream out.new).faults ≡ (O.stream out.old).faults) × ((E.stream err.new).faults ≡ (E.stream err.old).faults) }
+    ensures no_read_fault { result ≢ 7 → result ≢ 8 → result ≢ 9 → (F.reading files.new).faults ≡ (F.reading files.old).faults }
 
     // Reading changes no bytes under any name.
     ensures told { F.told files.new ≡ F.told files.old }

@@ -96,13 +96,7 @@ impl MemFiles {
 impl Files for MemFiles {
     ghost told = { λ m name. text_under m.files.items name };
 
-    ghost started = { λ m. m.started };
-
-    ghost taken = { λ m. m.taken };
-
-    ghost read_faults = { λ m. m.faults.total };
-
-    ghost faults_since_start = { λ m. m.faults.since_start };
+    ghost reading = { λ m. record { started = m.started; taken = m.taken; faults_since_start = m.faults.since_start; faults = m.faults.total } };
 
     fn start(&mut self, name: Name) -> Result<(), Failed>
         // It fails exactly where the call is listed or the name is missing.

@@ -50,20 +50,20 @@ pub fn read_all<F: Files>(alloc: Global, files: &mut F, name: &str) -> Result<Ve
     // What is told under the name is what is read, all of it.
     ensures whole { IfOk result (λ text. IfSome (F.told files.old name.now) (λ bytes. text.items ≡ bytes)) }
     ensures not_long { IfOk result (λ text. length text.items ≤ MAX_FILE_BYTES) }
-    ensures all_taken { IfOk result (λ text. F.taken files.new ≡ length text.items) }
+    ensures all_taken { IfOk result (λ text. (F.reading files.new).taken ≡ length text.items) }
 
     // A file is too long exactly where one byte more was taken and no read failed.
-    ensures too_long { IsErrOf result ReadEnd.TooLong → F.taken files.new ≡ MAX_FILE_BYTES + 1 }
+    ensures too_long { IsErrOf result ReadEnd.TooLong → (F.reading files.new).taken ≡ MAX_FILE_BYTES + 1 }
     ensures told_long { IsErrOf result ReadEnd.TooLong → IfSome (F.told files.old name.now) (λ bytes. MAX_FILE_BYTES < length bytes) }
-    ensures at_most { F.taken files.new ≤ max (F.taken files.old) (MAX_FILE_BYTES + 1) }
+    ensures at_most { (F.reading files.new).taken ≤ max (F.reading files.old).taken (MAX_FILE_BYTES + 1) }
 
     // A failure has its cause: a fault of this file, which the count tells.
-    ensures rose { IsErrOf result ReadEnd.Failed → Rose (F.read_faults files.old) (F.read_faults files.new) }
-    ensures fault { IsErrOf result ReadEnd.Failed → 0 < F.faults_since_start files.new }
-    ensures same_count { result ≢ Err ReadEnd.Failed → F.read_faults files.new ≡ F.read_faults files.old }
-    ensures no_fault { result ≢ Err ReadEnd.Failed → result ≢ Err ReadEnd.Memory → F.faults_since_start files.new ≡ 0 }
+    ensures rose { IsErrOf result ReadEnd.Failed → Rose (F.reading files.old).faults (F.reading files.new).faults }
+    ensures fault { IsErrOf result ReadEnd.Failed → 0 < (F.reading files.new).faults_since_start }
+    ensures same_count { result ≢ Err ReadEnd.Failed → (F.reading files.new).faults ≡ (F.reading files.old).faults }
+    ensures no_fault { result ≢ Err ReadEnd.Failed → result ≢ Err ReadEnd.Memory → (F.reading files.new).faults_since_start ≡ 0 }
 
-    ensures started { result ≢ Err ReadEnd.Memory → F.started files.new ≡ Some name.now }
+    ensures started { result ≢ Err ReadEnd.Memory → (F.reading files.new).started ≡ Some name.now }
     ensures told { F.told files.new ≡ F.told files.old }
 {
     let mut text = Vec::new(alloc);

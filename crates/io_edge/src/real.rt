@@ -39,13 +39,7 @@ impl<R: rt::Files + Drop> RealFiles<R> {
 impl<R: rt::Files + Drop> Files for RealFiles<R> {
     ghost told = { λ _ _. None };
 
-    ghost started = { λ f. f.started };
-
-    ghost taken = { λ f. f.taken };
-
-    ghost read_faults = { λ f. f.faults.total };
-
-    ghost faults_since_start = { λ f. f.faults.since_start };
+    ghost reading = { λ f. record { started = f.started; taken = f.taken; faults_since_start = f.faults.since_start; faults = f.faults.total } };
 
     fn start(&mut self, name: Name) -> Result<(), Failed> {
         let opened = fs::open(&self.runtime, name.text());
@@ -87,9 +81,7 @@ impl<W: Write + Drop> RealSink<W> {
 }
 
 impl<W: Write + Drop> Sink for RealSink<W> {
-    ghost written = { λ _. None };
-
-    ghost faults = { λ s. s.faults };
+    ghost stream = { λ s. record { written = None; faults = s.faults } };
 
     fn put(&mut self, bytes: &[u8]) -> Result<usize, Failed> {
         let count = self.stream.write(bytes).unwrap_or(0);

@@ -1,8 +1,8 @@
 use Rattle.std.proofs.Common.{ℕ, List, Option, map, inl, inr}
 use Rattle.std.specs.Prelude.{string_bytes}
 use Rattle.hwcbmc_core.specs.declared.answer.Answer.TheVariants.{Memory}
-use Rattle.hwcbmc_core.specs.Answers.{Reading}
-use Rattle.hwcbmc_core.specs.Delivery.{Stream}
+use Rattle.io_edge.specs.Files.{Reading}
+use Rattle.io_edge.specs.Sink.{Stream}
 use Rattle.hwcbmc_core.proofs.CauseLemmas.{usage_cause, success_cause, refusal_cause, failure_cause, write_cause, no_write_fault, no_read_fault}
 use Rattle.hwcbmc_core.proofs.run.Goals as goal
 
@@ -17,12 +17,12 @@ returns-clause-usage g c = λ is.
     let answered = returns-clause-answered g c in
     let words : List (List ℕ) = map string_bytes c.args.words.now in
     let told : List ℕ → Option (List ℕ) = g.F.Files.told c.args.files.now in
-    let before : Reading = record { started = g.F.Files.started c.args.files.now; taken = g.F.Files.taken c.args.files.now; faults_since_start = g.F.Files.faults_since_start c.args.files.now; faults = g.F.Files.read_faults c.args.files.now } in
-    let after : Reading = record { started = g.F.Files.started c.answer_for-answer.new.files; taken = g.F.Files.taken c.answer_for-answer.new.files; faults_since_start = g.F.Files.faults_since_start c.answer_for-answer.new.files; faults = g.F.Files.read_faults c.answer_for-answer.new.files } in
-    let out : Stream = record { written = g.O.Sink.written c.args.out.now; faults = g.O.Sink.faults c.args.out.now } in
-    let out_after : Stream = record { written = g.O.Sink.written c.deliver.new.out; faults = g.O.Sink.faults c.deliver.new.out } in
-    let err : Stream = record { written = g.E.Sink.written c.args.err.now; faults = g.E.Sink.faults c.args.err.now } in
-    let err_after : Stream = record { written = g.E.Sink.written c.deliver.new.err; faults = g.E.Sink.faults c.deliver.new.err } in
+    let before : Reading = g.F.Files.reading c.args.files.now in
+    let after : Reading = g.F.Files.reading c.answer_for-answer.new.files in
+    let out : Stream = g.O.Sink.stream c.args.out.now in
+    let out_after : Stream = g.O.Sink.stream c.deliver.new.out in
+    let err : Stream = g.E.Sink.stream c.args.err.now in
+    let err_after : Stream = g.E.Sink.stream c.deliver.new.err in
     usage_cause words told before after answered.0 c.deliver.result out out_after err err_after answered.1 answered.2 is
 
 pub returns-clause-successful : goal.returns-clause-successful
@@ -30,12 +30,12 @@ returns-clause-successful g c = λ is.
     let answered = returns-clause-answered g c in
     let words : List (List ℕ) = map string_bytes c.args.words.now in
     let told : List ℕ → Option (List ℕ) = g.F.Files.told c.args.files.now in
-    let before : Reading = record { started = g.F.Files.started c.args.files.now; taken = g.F.Files.taken c.args.files.now; faults_since_start = g.F.Files.faults_since_start c.args.files.now; faults = g.F.Files.read_faults c.args.files.now } in
-    let after : Reading = record { started = g.F.Files.started c.answer_for-answer.new.files; taken = g.F.Files.taken c.answer_for-answer.new.files; faults_since_start = g.F.Files.faults_since_start c.answer_for-answer.new.files; faults = g.F.Files.read_faults c.answer_for-answer.new.files } in
-    let out : Stream = record { written = g.O.Sink.written c.args.out.now; faults = g.O.Sink.faults c.args.out.now } in
-    let out_after : Stream = record { written = g.O.Sink.written c.deliver.new.out; faults = g.O.Sink.faults c.deliver.new.out } in
-    let err : Stream = record { written = g.E.Sink.written c.args.err.now; faults = g.E.Sink.faults c.args.err.now } in
-    let err_after : Stream = record { written = g.E.Sink.written c.deliver.new.err; faults = g.E.Sink.faults c.deliver.new.err } in
+    let before : Reading = g.F.Files.reading c.args.files.now in
+    let after : Reading = g.F.Files.reading c.answer_for-answer.new.files in
+    let out : Stream = g.O.Sink.stream c.args.out.now in
+    let out_after : Stream = g.O.Sink.stream c.deliver.new.out in
+    let err : Stream = g.E.Sink.stream c.args.err.now in
+    let err_after : Stream = g.E.Sink.stream c.deliver.new.err in
     success_cause words told before after answered.0 c.deliver.result out out_after err err_after answered.1 answered.2 is
 
 pub returns-clause-refused : goal.returns-clause-refused
@@ -43,12 +43,12 @@ returns-clause-refused g c = λ is.
     let answered = returns-clause-answered g c in
     let words : List (List ℕ) = map string_bytes c.args.words.now in
     let told : List ℕ → Option (List ℕ) = g.F.Files.told c.args.files.now in
-    let before : Reading = record { started = g.F.Files.started c.args.files.now; taken = g.F.Files.taken c.args.files.now; faults_since_start = g.F.Files.faults_since_start c.args.files.now; faults = g.F.Files.read_faults c.args.files.now } in
-    let after : Reading = record { started = g.F.Files.started c.answer_for-answer.new.files; taken = g.F.Files.taken c.answer_for-answer.new.files; faults_since_start = g.F.Files.faults_since_start c.answer_for-answer.new.files; faults = g.F.Files.read_faults c.answer_for-answer.new.files } in
-    let out : Stream = record { written = g.O.Sink.written c.args.out.now; faults = g.O.Sink.faults c.args.out.now } in
-    let out_after : Stream = record { written = g.O.Sink.written c.deliver.new.out; faults = g.O.Sink.faults c.deliver.new.out } in
-    let err : Stream = record { written = g.E.Sink.written c.args.err.now; faults = g.E.Sink.faults c.args.err.now } in
-    let err_after : Stream = record { written = g.E.Sink.written c.deliver.new.err; faults = g.E.Sink.faults c.deliver.new.err } in
+    let before : Reading = g.F.Files.reading c.args.files.now in
+    let after : Reading = g.F.Files.reading c.answer_for-answer.new.files in
+    let out : Stream = g.O.Sink.stream c.args.out.now in
+    let out_after : Stream = g.O.Sink.stream c.deliver.new.out in
+    let err : Stream = g.E.Sink.stream c.args.err.now in
+    let err_after : Stream = g.E.Sink.stream c.deliver.new.err in
     refusal_cause words told before after answered.0 c.deliver.result out out_after err err_after answered.1 answered.2 is
 
 pub returns-clause-failed : goal.returns-clause-failed
@@ -56,30 +56,30 @@ returns-clause-failed g c = λ is.
     let answered = returns-clause-answered g c in
     let words : List (List ℕ) = map string_bytes c.args.words.now in
     let told : List ℕ → Option (List ℕ) = g.F.Files.told c.args.files.now in
-    let before : Reading = record { started = g.F.Files.started c.args.files.now; taken = g.F.Files.taken c.args.files.now; faults_since_start = g.F.Files.faults_since_start c.args.files.now; faults = g.F.Files.read_faults c.args.files.now } in
-    let after : Reading = record { started = g.F.Files.started c.answer_for-answer.new.files; taken = g.F.Files.taken c.answer_for-answer.new.files; faults_since_start = g.F.Files.faults_since_start c.answer_for-answer.new.files; faults = g.F.Files.read_faults c.answer_for-answer.new.files } in
-    let out : Stream = record { written = g.O.Sink.written c.args.out.now; faults = g.O.Sink.faults c.args.out.now } in
-    let out_after : Stream = record { written = g.O.Sink.written c.deliver.new.out; faults = g.O.Sink.faults c.deliver.new.out } in
-    let err : Stream = record { written = g.E.Sink.written c.args.err.now; faults = g.E.Sink.faults c.args.err.now } in
-    let err_after : Stream = record { written = g.E.Sink.written c.deliver.new.err; faults = g.E.Sink.faults c.deliver.new.err } in
+    let before : Reading = g.F.Files.reading c.args.files.now in
+    let after : Reading = g.F.Files.reading c.answer_for-answer.new.files in
+    let out : Stream = g.O.Sink.stream c.args.out.now in
+    let out_after : Stream = g.O.Sink.stream c.deliver.new.out in
+    let err : Stream = g.E.Sink.stream c.args.err.now in
+    let err_after : Stream = g.E.Sink.stream c.deliver.new.err in
     failure_cause words told before after answered.0 c.deliver.result out out_after err err_after answered.1 answered.2 is
 
 pub returns-clause-write_fault : goal.returns-clause-write_fault
 returns-clause-write_fault g c = λ is.
     let answered = returns-clause-answered g c in
-    let out : Stream = record { written = g.O.Sink.written c.args.out.now; faults = g.O.Sink.faults c.args.out.now } in
-    let out_after : Stream = record { written = g.O.Sink.written c.deliver.new.out; faults = g.O.Sink.faults c.deliver.new.out } in
-    let err : Stream = record { written = g.E.Sink.written c.args.err.now; faults = g.E.Sink.faults c.args.err.now } in
-    let err_after : Stream = record { written = g.E.Sink.written c.deliver.new.err; faults = g.E.Sink.faults c.deliver.new.err } in
+    let out : Stream = g.O.Sink.stream c.args.out.now in
+    let out_after : Stream = g.O.Sink.stream c.deliver.new.out in
+    let err : Stream = g.E.Sink.stream c.args.err.now in
+    let err_after : Stream = g.E.Sink.stream c.deliver.new.err in
     write_cause answered.0 c.deliver.result out out_after err err_after answered.2 is
 
 pub returns-clause-no_write_fault : goal.returns-clause-no_write_fault
 returns-clause-no_write_fault g c = λ apart.
     let answered = returns-clause-answered g c in
-    let out : Stream = record { written = g.O.Sink.written c.args.out.now; faults = g.O.Sink.faults c.args.out.now } in
-    let out_after : Stream = record { written = g.O.Sink.written c.deliver.new.out; faults = g.O.Sink.faults c.deliver.new.out } in
-    let err : Stream = record { written = g.E.Sink.written c.args.err.now; faults = g.E.Sink.faults c.args.err.now } in
-    let err_after : Stream = record { written = g.E.Sink.written c.deliver.new.err; faults = g.E.Sink.faults c.deliver.new.err } in
+    let out : Stream = g.O.Sink.stream c.args.out.now in
+    let out_after : Stream = g.O.Sink.stream c.deliver.new.out in
+    let err : Stream = g.E.Sink.stream c.args.err.now in
+    let err_after : Stream = g.E.Sink.stream c.deliver.new.err in
     no_write_fault answered.0 c.deliver.result out out_after err err_after answered.2 apart
 
 pub returns-clause-no_read_fault : goal.returns-clause-no_read_fault
@@ -87,10 +87,10 @@ returns-clause-no_read_fault g c = λ seven eight nine.
     let answered = returns-clause-answered g c in
     let words : List (List ℕ) = map string_bytes c.args.words.now in
     let told : List ℕ → Option (List ℕ) = g.F.Files.told c.args.files.now in
-    let before : Reading = record { started = g.F.Files.started c.args.files.now; taken = g.F.Files.taken c.args.files.now; faults_since_start = g.F.Files.faults_since_start c.args.files.now; faults = g.F.Files.read_faults c.args.files.now } in
-    let after : Reading = record { started = g.F.Files.started c.answer_for-answer.new.files; taken = g.F.Files.taken c.answer_for-answer.new.files; faults_since_start = g.F.Files.faults_since_start c.answer_for-answer.new.files; faults = g.F.Files.read_faults c.answer_for-answer.new.files } in
-    let out : Stream = record { written = g.O.Sink.written c.args.out.now; faults = g.O.Sink.faults c.args.out.now } in
-    let out_after : Stream = record { written = g.O.Sink.written c.deliver.new.out; faults = g.O.Sink.faults c.deliver.new.out } in
-    let err : Stream = record { written = g.E.Sink.written c.args.err.now; faults = g.E.Sink.faults c.args.err.now } in
-    let err_after : Stream = record { written = g.E.Sink.written c.deliver.new.err; faults = g.E.Sink.faults c.deliver.new.err } in
+    let before : Reading = g.F.Files.reading c.args.files.now in
+    let after : Reading = g.F.Files.reading c.answer_for-answer.new.files in
+    let out : Stream = g.O.Sink.stream c.args.out.now in
+    let out_after : Stream = g.O.Sink.stream c.deliver.new.out in
+    let err : Stream = g.E.Sink.stream c.args.err.now in
+    let err_after : Stream = g.E.Sink.stream c.deliver.new.err in
     no_read_fault words told before after answered.0 c.deliver.result out out_after err err_after answered.1 answered.2 seven eight nine

@@ -20,12 +20,7 @@ returns-in-Err-read_all-clause-right g c =
     let fits : FitsLength (told c.args.options.c_file) = fits_read (told c.args.options.c_file) c.in-Ok.text.items
     (read_whole told told c.text.result.now c.args.options.c_file c.in-Ok.text.items c.in-Ok.text.items refl c.text.ensures refl c.in-Ok.ensures.whole) c.in-Ok.ensures.not_long in
     rw c.unread-in-Err-read_all.ensures (v_unread c.args.options told _ _ c.text-2.result.now c.in-Err-read_all.end c.text-2.ensures fits
-    (leaves_after c.text-2.result.now told (g.F.Files.told c.read_all.new.files) _ (record {
-      started = g.F.Files.started c.read_all.new.files;
-      taken = g.F.Files.taken c.read_all.new.files;
-      faults_since_start = g.F.Files.faults_since_start c.read_all.new.files;
-      faults = g.F.Files.read_faults c.read_all.new.files;
-    }) _ c.in-Err-read_all.end c.in-Ok.ensures.told (c.in-Ok.ensures.same_count (λ is. cc)) (record {
+    (leaves_after c.text-2.result.now told (g.F.Files.told c.read_all.new.files) _ (g.F.Files.reading c.read_all.new.files) _ c.in-Err-read_all.end c.in-Ok.ensures.told (c.in-Ok.ensures.same_count (λ is. cc)) (record {
       rose = λ is. c.in-Err-read_all.ensures.rose (ap Err is);
       fault = λ is. c.in-Err-read_all.ensures.fault (ap Err is);
       started = λ ne. c.in-Err-read_all.ensures.started (λ is. ne cc);

@@ -7,12 +7,12 @@ abbrev pub invariant-loop-buffer : goal.invariant-loop-buffer
 invariant-loop-buffer g l = record {
   room : length l.buffer ≡ 4096;
   most : vec_len l.text ≤ 1048577;
-  taken : g.F.Files.taken l.files ≡ length l.text.items;
+  taken : (g.F.Files.reading l.files).taken ≡ length l.text.items;
   front : IfSome (g.F.Files.told l.files l.fn.name) (λ bytes. bytes ≡ l.text.items ++ drop (length l.text.items) bytes);
-  started : g.F.Files.started l.files ≡ Some l.fn.name;
+  started : (g.F.Files.reading l.files).started ≡ Some l.fn.name;
   told : g.F.Files.told l.files ≡ g.F.Files.told l.fn.files;
-  same_count : g.F.Files.read_faults l.files ≡ g.F.Files.read_faults l.fn.files;
-  no_fault : g.F.Files.faults_since_start l.files ≡ 0;
+  same_count : (g.F.Files.reading l.files).faults ≡ (g.F.Files.reading l.fn.files).faults;
+  no_fault : (g.F.Files.reading l.files).faults_since_start ≡ 0;
 }
 
 abbrev pub decreases-loop-buffer : goal.decreases-loop-buffer

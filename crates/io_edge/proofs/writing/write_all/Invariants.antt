@@ -6,8 +6,8 @@ use Rattle.io_edge.proofs.writing.write_all.Given as goal
 abbrev pub invariant-loop-done : goal.invariant-loop-done
 invariant-loop-done g l = record {
   within : l.done ≤ length l.bytes;
-  written : Appends (g.K.Sink.written l.initial.sink) (g.K.Sink.written l.sink) (take l.done l.bytes);
-  same_count : g.K.Sink.faults l.sink ≡ g.K.Sink.faults l.initial.sink;
+  written : Appends (g.K.Sink.stream l.initial.sink).written (g.K.Sink.stream l.sink).written (take l.done l.bytes);
+  same_count : (g.K.Sink.stream l.sink).faults ≡ (g.K.Sink.stream l.initial.sink).faults;
 }
 
 abbrev pub decreases-loop-done : goal.decreases-loop-done
