@@ -1,0 +1,5 @@
+pub mod Stretches
+pub mod Pieces
+pub mod Gates
+pub mod Pushing
+pub mod Puts

@@ -1,0 +1,4 @@
+pub mod Guards
+pub mod Images
+pub mod Unwinding
+pub mod Writing
