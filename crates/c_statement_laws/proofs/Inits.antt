@@ -30,11 +30,11 @@ use Rattle.c_statement_laws.specs.Agreeing.{Agrees, Agree, AllBytes, InitBytes, 
 use Rattle.c_meaning.proofs.Means.{stand_left, stand_right}
 use Rattle.c_meaning.proofs.Fits.{expression_fits, converted_fits}
 
-none_left : (a b : List Offence) → a ++ b ≡ [] → a ≡ []
+pub none_left : (a b : List Offence) → a ++ b ≡ [] → a ≡ []
 none_left [] b h = refl
 none_left (x ∷ a) b h = cc
 
-none_right : (a b : List Offence) → a ++ b ≡ [] → b ≡ []
+pub none_right : (a b : List Offence) → a ++ b ≡ [] → b ≡ []
 none_right [] b h = h
 none_right (x ∷ a) b h = cc
 
@@ -78,7 +78,7 @@ module _ (c : well.Scope) (all : List Site) (props : AreProps all c.program) (en
       pick None h = absurd (cc)
       pick (Some t) h = refl
 
-  call_fits : (fns : List Signature) → Agree c.program fns → (p : Place) (f : ℕ) (s : Signature) (base : ℕ) (args : List Expression) → slice_get fns f ≡ Some s →
+  pub call_fits : (fns : List Signature) → Agree c.program fns → (p : Place) (f : ℕ) (s : Signature) (base : ℕ) (args : List Expression) → slice_get fns f ≡ Some s →
       signature_offences p (length args) (Some s) ≡ [] → AllBytes args → StandAt all base (args_sites env args) → FitsCall c (call_typed p f (args_typed env base s.params 0 args))
   call_fits fns agree p f s base args is none v st =
       let a = agree f s is in

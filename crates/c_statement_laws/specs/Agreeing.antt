@@ -1,5 +1,5 @@
 -- When signatures agree with a program.
-use Rattle.std.specs.Prelude.{◌≡◌, ℕ, ◌+◌, ◌⊎◌, List, [], ◌∷◌, length, slice_get, IsTrue, Some, IsSome}
+use Rattle.std.specs.Prelude.{◌≡◌, ℕ, ◌+◌, ◌⊎◌, List, [], ◌∷◌, length, slice_get, true, IsTrue, Some, IsSome}
 use Rattle.c_tree.specs.declared.declarations.Initializer.{Initializer}
 use Rattle.c_tree.specs.declared.declarations.Initializer.TheVariants as initializer
 use Rattle.c_tree.specs.declared.expressions.Expression.{Expression}
@@ -8,11 +8,19 @@ use Rattle.joint_ir.specs.declared.expr.Slot.TheVariants.{Local}
 use Rattle.joint_ir.specs.declared.program.CProgram.{CProgram}
 use Rattle.joint_ir.specs.declared.program.Function.{Function}
 use Rattle.joint_ir.specs.Types.{IsType}
+use Rattle.joint_ir.specs.WellFormed as well
+use Rattle.joint_ir.specs.WellFormed.{is_bound}
 use Rattle.joint_ir.specs.Steps.{slot_type}
+use Rattle.c_tree.specs.declared.statements.Simple.{Simple}
+use Rattle.c_tree.specs.declared.statements.Simple.TheVariants as simple
+use Rattle.c_words.specs.declared.notes.Site.{Site}
+use Rattle.c_names.specs.declared.scope.Entry.TheVariants as entry
+use Rattle.c_names.specs.declared.scope.Target.{Target}
+use Rattle.c_names.specs.Scope.{Scope, lookup}
 use Rattle.c_statements.specs.declared.calls.Callee.{Callee}
 use Rattle.c_statements.specs.declared.calls.Callee.TheVariants.{Unknown, NotFunction, SetInputs, NextFrame, Declared}
 use Rattle.c_statements.specs.declared.calls.Signature.{Signature}
-use Rattle.c_meaning.specs.Sound.{AreBytes}
+use Rattle.c_meaning.specs.Sound.{AreBytes, PathBytes, AreThere, AreProps}
 
 -- a function of the program has the result and the parameters of a signature, and may be called where the signature says so
 pub record Agrees (p : CProgram) (s : Signature) (fn : Function) : Type 0 where
@@ -21,13 +29,16 @@ pub record Agrees (p : CProgram) (s : Signature) (fn : Function) : Type 0 where
   pub params : (i : ℕ) (t : IntType) → slice_get s.params i ≡ Some t → (t ≡ slot_type p (Local (fn.first + i))) × IsType t
   pub body : IsTrue s.callable → IsSome fn.body ⊎ IsSome fn.result
 
+-- each signature agrees with the function of its number
 abbrev pub Agree : CProgram → List Signature → Type 0
 Agree p fns = (f : ℕ) (s : Signature) → slice_get fns f ≡ Some s → (fn : Function) × (slice_get p.functions f ≡ Some fn) × Agrees p s fn
 
+-- each character in expressions is a byte
 abbrev pub AllBytes : List Expression → Type 0
 AllBytes [] = Unit {0}
 AllBytes (e ∷ es) = AreBytes e × AllBytes es
 
+-- the same in what an object is set to
 abbrev pub InitBytes : Initializer → Type 0
 InitBytes (initializer.Value e) = AreBytes e
 InitBytes (initializer.Called call) = AllBytes call.arguments
@@ -39,3 +50,27 @@ HasSignature fns NotFunction = Unit {0}
 HasSignature fns SetInputs = Unit {0}
 HasSignature fns NextFrame = Unit {0}
 HasSignature fns (Declared f) = (s : Signature) × (slice_get fns f ≡ Some s)
+
+-- the same in an assignment, an update or a call
+abbrev pub SimpleBytes : Simple → Type 0
+SimpleBytes (simple.Assign x i) = PathBytes x × InitBytes i
+SimpleBytes (simple.Update x mark e) = PathBytes x × AreBytes e
+SimpleBytes (simple.StepAfter x mark) = PathBytes x
+SimpleBytes (simple.StepBefore mark x) = PathBytes x
+SimpleBytes (simple.Called call) = AllBytes call.arguments
+
+-- each name that stands for a function, stands for one that has a signature
+abbrev pub AreSigned : List Signature → List Scope → Type 0
+AreSigned fns env = (name : List ℕ) (f : ℕ) → lookup env name ≡ Some (entry.Function f) → (s : Signature) × (slice_get fns f ≡ Some s)
+
+-- `bound` can't be assigned to
+abbrev pub BoundStays : List Scope → Type 0
+BoundStays env = (name : List ℕ) (o : Target) → lookup env name ≡ Some (entry.Object o) → is_bound o.slot ≡ true → o.constant ≡ true
+
+-- where a statement stands: its scopes, the functions that they know and the properties of the text fit the program
+pub record IsSetting (c : well.Scope) (all : List Site) (fns : List Signature) (env : List Scope) : Type 0 where
+  pub props : AreProps all c.program
+  pub names : AreThere c env
+  pub bound : BoundStays env
+  pub agree : Agree c.program fns
+  pub signed : AreSigned fns env

@@ -1,19 +1,21 @@
 -- What typed statements have of their sources.
-use Rattle.std.specs.Prelude.{◌≡◌, ℕ, List, [], false}
+use Rattle.std.specs.Prelude.{◌≡◌, ℕ, List, [], false, IsTrue}
 use Rattle.c_tree.specs.declared.declarations.Initializer.{Initializer}
 use Rattle.c_tree.specs.declared.declarations.Initializer.TheVariants as initializer
 use Rattle.c_tree.specs.declared.expressions.Call.{Call}
+use Rattle.c_tree.specs.declared.statements.Simple.{Simple}
 use Rattle.joint_ir.specs.declared.ctype.IntType.{IntType}
 use Rattle.joint_ir.specs.Types.{IsType}
 use Rattle.joint_ir.specs.WellFormed as well
-use Rattle.joint_ir.specs.WellFormed.{FitsInit}
+use Rattle.joint_ir.specs.WellFormed.{FitsInit, FitsStmt, is_simple}
 use Rattle.c_words.specs.declared.notes.Site.{Site}
 use Rattle.c_names.specs.Scope.{Scope}
 use Rattle.c_expressions.specs.Values.{StandAt}
 use Rattle.c_meaning.specs.Sound.{AreThere, AreProps}
 use Rattle.c_statements.specs.declared.calls.Signature.{Signature}
 use Rattle.c_statements.specs.Calls.{callee, init_offences, init_sites, init_typed}
-use Rattle.c_statement_laws.specs.Agreeing.{Agree, InitBytes, HasSignature}
+use Rattle.c_statements.specs.Simple.{simple_offences, simple_sites, simple_typed}
+use Rattle.c_statement_laws.specs.Agreeing.{Agree, InitBytes, HasSignature, SimpleBytes, IsSetting}
 
 -- what an object of a type is set to is well-formed, a call with its arguments too, where nothing in it is an offence
 abbrev pub InitializersFit : Type 0
@@ -22,3 +24,10 @@ InitializersFit =
     (fns : List Signature) → Agree c.program fns → (t : IntType) → IsType t → (base : ℕ) (i : Initializer) →
     ((call : Call) → i ≡ initializer.Called call → HasSignature fns (callee env call)) →
     init_offences fns env i ≡ [] → InitBytes i → StandAt all base (init_sites env i) → FitsInit c false t (init_typed fns env base t i)
+
+-- an assignment, an update or a call is well-formed, and may be a part of a `for`, where nothing in it is an offence
+abbrev pub SimplesFit : Type 0
+SimplesFit =
+    (c : well.Scope) (all : List Site) (fns : List Signature) (env : List Scope) → IsSetting c all fns env → (base : ℕ) (s : Simple) →
+    simple_offences fns env s ≡ [] → SimpleBytes s → StandAt all base (simple_sites env s) →
+    FitsStmt c (simple_typed fns env base s) × IsTrue (is_simple (simple_typed fns env base s))

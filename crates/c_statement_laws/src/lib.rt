@@ -3,9 +3,14 @@
 //! Nothing here does anything: each function is the statement of a law.
 #![tactic(auto)]
 
-ghost use Rattle.c_statement_laws.specs.Laws.{InitializersFit};
+ghost use Rattle.c_statement_laws.specs.Laws.{InitializersFit, SimplesFit};
 
 /// What an object is set to is well-formed, a call with its arguments too.
 pub fn initializers_fit()
     ensures { InitializersFit }
+{}
+
+/// An assignment, an update and a call that stands alone are well-formed.
+pub fn simples_fit()
+    ensures { SimplesFit }
 {}
