@@ -1,0 +1,78 @@
+-- What the unwinding of an expression or of a simple statement promises.
+use Rattle.std.specs.Prelude.{◌≡◌, ℕ, List, None, Option, if◌then◌else◌, slice_get}
+use Rattle.word_eqs.specs.Meaning.{Values}
+use Rattle.joint_ir.specs.declared.ctype.IntType.{IntType}
+use Rattle.joint_ir.specs.declared.event.Outcome.TheVariants.{Cut}
+use Rattle.joint_ir.specs.declared.expr.TExpr.{TExpr}
+use Rattle.joint_ir.specs.declared.program.PropId.{PropId}
+use Rattle.joint_ir.specs.declared.stmt.TTarget.{TTarget}
+use Rattle.joint_ir.specs.declared.way.Way.TheVariants.{Next}
+use Rattle.joint_ir.specs.Effects.{Onward, nothing, Goes, Stops, with_value, broken}
+use Rattle.joint_ir.specs.Steps.{Setting, Calls, rows_in, slot_type, result_of}
+use Rattle.joint_ir.specs.Values.{value_of, is_zero}
+use Rattle.joint_ir.specs.WellFormed.{Scope, FitsExpr, FitsTarget, FitsAs}
+use Rattle.sized_terms.specs.declared.SizedTerm.{SizedTerm}
+use Rattle.sized_terms.specs.Sized.{Has}
+use Rattle.unrolled.specs.declared.Unrolled.{Unrolled}
+use Rattle.trails.specs.Following.{goes}
+use Rattle.unwind_state.specs.declared.state.Flow.{Flow}
+use Rattle.unwind_state.specs.declared.state.Guard.{Guard}
+use Rattle.unwind_state.specs.declared.state.State.{State}
+use Rattle.unwind_state.specs.Guards.{HasGuard, HasFlow}
+use Rattle.unwind_state.specs.Images.{IsState, IsSettled, IsBehind}
+use Rattle.unwind_state.specs.Unwinding.{Grows, Asks, Unwinds}
+use Rattle.unwind_state.specs.Writing.{HasObjects}
+use Rattle.unwind_simple.specs.declared.simple.Activation.{Activation}
+
+-- what a run of the same body is of
+abbrev pub setting_of : Activation → Setting
+setting_of a = record { pair = a.pair.now; bounds = a.bounds.now; here = a.here }
+
+-- a scope of the program that is unwound
+abbrev pub is_in : Activation → Scope → Type 0
+is_in a c = c.program ≡ a.pair.now.program
+
+-- an expression that fits somewhere, over objects that have terms, and a guard
+pub record MayAsk (a : Activation) (n : Unrolled) (s : State) (e : TExpr) (g : Guard) : Type 0 where
+  pub scope : Scope
+  pub program : is_in a scope
+  pub fits : FitsExpr scope e
+  pub objects : HasObjects a.pair.now.program n.terms s.objects
+  pub guard : HasGuard n.terms g
+
+-- the term of an expression's value, wherever the expression fits
+pub record IsValued (a : Activation) (n0 n1 : Unrolled) (s : State) (e : TExpr) (g : Guard) (t : SizedTerm) : Type 0 where
+  pub grows : Grows n0.terms n1.terms
+  pub has : Has n1.terms t
+  pub width : t.width ≡ e.ty.bits
+  pub asks : (c : Scope) → is_in a c → FitsExpr c e → Asks (IsSettled a.pair.now) n0 n1 s e.ty (λ x. value_of (rows_in (setting_of a) x) e) g t (IsState a.pair.now c.locals)
+
+-- the type of a target
+abbrev pub stored_type : Activation → TTarget → IntType
+stored_type a target = slot_type a.pair.now.program target.slot
+
+-- a store that fits somewhere, to an object that is no array
+pub record MayStore (a : Activation) (n : Unrolled) (s : State) (target : TTarget) (e : TExpr) (g : Guard) : Type 0 where
+  pub scope : Scope
+  pub program : is_in a scope
+  pub fits_target : FitsTarget scope target
+  pub plain : target.index ≡ None
+  pub fits : FitsAs scope (stored_type a target) e
+  pub objects : HasObjects a.pair.now.program n.terms s.objects
+  pub guard : HasGuard n.terms g
+
+-- A statement was unwound, whatever calls do: what it does, between the locals that are declared before it and those behind it;
+-- all objects have terms again, and the guards of the ways on are there.
+pub record IsDone (a : Activation) (n0 n1 : Unrolled) (s0 s1 : State) (g : Guard) (f : Flow) (before behind : List ℕ) (run : Calls → Onward) : Type 0 where
+  pub grows : Grows n0.terms n1.terms
+  pub objects : HasObjects a.pair.now.program n1.terms s1.objects
+  pub flow : HasFlow n1.terms f
+  pub does : (calls : Calls) → Unwinds (IsSettled a.pair.now) n0 n1 s0 s1 (λ v. run calls) g f (IsState a.pair.now before) (IsBehind a.pair.now behind (result_of (slice_get a.pair.now.program.functions a.here))) goes
+
+-- an assertion of an expression (`__CPROVER_assert`)
+abbrev pub asserted_as : Setting → TExpr → PropId → Onward
+asserted_as k e p s c = with_value (value_of (rows_in k s) e) c (λ n. if is_zero n then broken p c else Goes Next s nothing c)
+
+-- an assumption of an expression (`__CPROVER_assume`)
+abbrev pub assumed_as : Setting → TExpr → Onward
+assumed_as k e s c = with_value (value_of (rows_in k s) e) c (λ n. if is_zero n then Stops Cut nothing c else Goes Next s nothing c)
