@@ -1,0 +1,5 @@
+pub mod Heads
+pub mod Tables
+pub mod Declarations
+pub mod Definitions
+pub mod Steps
