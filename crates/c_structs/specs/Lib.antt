@@ -1,0 +1,11 @@
+pub mod Tags
+pub mod Lists
+pub mod Sets
+pub mod Codes
+pub mod Readings
+pub mod Turns
+pub mod Under
+pub mod Depths
+pub mod Structs
+pub mod Mirror
+pub mod Fits

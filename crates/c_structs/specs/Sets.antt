@@ -1,0 +1,6 @@
+-- The names in a set.
+use Rattle.std.specs.Prelude.{ℕ, List, map, String, string_bytes}
+use Rattle.std.specs.HashSet.{HashSet}
+
+abbrev pub names_in : {Y S : Type 0} → HashSet (String Y) S → List (List ℕ)
+names_in s = map string_bytes s.keys
