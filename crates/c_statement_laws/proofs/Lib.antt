@@ -1,2 +1,4 @@
 pub mod Inits
 pub mod Simples
+pub mod Names
+pub mod Declaring

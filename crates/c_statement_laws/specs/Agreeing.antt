@@ -1,5 +1,7 @@
 -- When signatures agree with a program.
 use Rattle.std.specs.Prelude.{◌≡◌, ℕ, ◌+◌, ◌⊎◌, List, [], ◌∷◌, length, slice_get, true, IsTrue, Some, IsSome}
+use Rattle.c_tree.specs.declared.declarations.Declarator.{Declarator}
+use Rattle.c_tree.specs.declared.declarations.Declarator.TheVariants as declarator
 use Rattle.c_tree.specs.declared.declarations.Initializer.{Initializer}
 use Rattle.c_tree.specs.declared.declarations.Initializer.TheVariants as initializer
 use Rattle.c_tree.specs.declared.expressions.Expression.{Expression}
@@ -7,9 +9,10 @@ use Rattle.joint_ir.specs.declared.ctype.IntType.{IntType}
 use Rattle.joint_ir.specs.declared.expr.Slot.TheVariants.{Local}
 use Rattle.joint_ir.specs.declared.program.CProgram.{CProgram}
 use Rattle.joint_ir.specs.declared.program.Function.{Function}
+use Rattle.joint_ir.specs.declared.stmt.TStmt.{TStmt}
 use Rattle.joint_ir.specs.Types.{IsType}
 use Rattle.joint_ir.specs.WellFormed as well
-use Rattle.joint_ir.specs.WellFormed.{is_bound}
+use Rattle.joint_ir.specs.WellFormed.{FitsStmt, declared_behind, is_bound, with_scope_locals}
 use Rattle.joint_ir.specs.Steps.{slot_type}
 use Rattle.c_tree.specs.declared.statements.Simple.{Simple}
 use Rattle.c_tree.specs.declared.statements.Simple.TheVariants as simple
@@ -74,3 +77,24 @@ pub record IsSetting (c : well.Scope) (all : List Site) (fns : List Signature) (
   pub bound : BoundStays env
   pub agree : Agree c.program fns
   pub signed : AreSigned fns env
+
+-- the same in a declarator
+abbrev pub DeclaratorBytes : Declarator → Type 0
+DeclaratorBytes (declarator.Plain x) = Unit {0}
+DeclaratorBytes (declarator.Initialized x i) = InitBytes i
+DeclaratorBytes (declarator.Array x n) = Unit {0}
+DeclaratorBytes (declarator.InitializedArray x n es) = AllBytes es
+
+-- what stands in a list stands at the same place of another
+abbrev pub IsPrefix : {A : Type 0} → List A → List A → Type 0
+IsPrefix xs ys = (i : ℕ) (x : _) → slice_get xs i ≡ Some x → slice_get ys i ≡ Some x
+
+-- each statement of a list fits where those before it have declared their objects
+abbrev pub FitsList : well.Scope → List TStmt → Type 0
+FitsList c [] = Unit {0}
+FitsList c (s ∷ ss) = FitsStmt c s.node × FitsList (with_scope_locals c (declared_behind s.node c.locals)) ss
+
+-- the scope behind the statements of a list
+abbrev pub behind_list : well.Scope → List TStmt → well.Scope
+behind_list c [] = c
+behind_list c (s ∷ ss) = behind_list (with_scope_locals c (declared_behind s.node c.locals)) ss

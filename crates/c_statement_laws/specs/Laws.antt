@@ -1,5 +1,6 @@
 -- What typed statements have of their sources.
-use Rattle.std.specs.Prelude.{◌≡◌, ℕ, List, [], false, IsTrue}
+use Rattle.std.specs.Prelude.{◌≡◌, ◌<◌, ◌≤◌, ◌^◌, ℕ, List, [], length, All, Bool, false, IsTrue}
+use Rattle.c_tree.specs.declared.declarations.Declarator.{Declarator}
 use Rattle.c_tree.specs.declared.declarations.Initializer.{Initializer}
 use Rattle.c_tree.specs.declared.declarations.Initializer.TheVariants as initializer
 use Rattle.c_tree.specs.declared.expressions.Call.{Call}
@@ -14,8 +15,10 @@ use Rattle.c_expressions.specs.Values.{StandAt}
 use Rattle.c_meaning.specs.Sound.{AreThere, AreProps}
 use Rattle.c_statements.specs.declared.calls.Signature.{Signature}
 use Rattle.c_statements.specs.Calls.{callee, init_offences, init_sites, init_typed}
+use Rattle.c_statements.specs.Known.{Known}
+use Rattle.c_statements.specs.Statements.{declarators_known, declarators_offences, declarators_typed}
 use Rattle.c_statements.specs.Simple.{simple_offences, simple_sites, simple_typed}
-use Rattle.c_statement_laws.specs.Agreeing.{Agree, InitBytes, HasSignature, SimpleBytes, IsSetting}
+use Rattle.c_statement_laws.specs.Agreeing.{Agree, InitBytes, HasSignature, SimpleBytes, DeclaratorBytes, IsSetting, IsPrefix, FitsList, behind_list}
 
 -- what an object of a type is set to is well-formed, a call with its arguments too, where nothing in it is an offence
 abbrev pub InitializersFit : Type 0
@@ -31,3 +34,14 @@ SimplesFit =
     (c : well.Scope) (all : List Site) (fns : List Signature) (env : List Scope) → IsSetting c all fns env → (base : ℕ) (s : Simple) →
     simple_offences fns env s ≡ [] → SimpleBytes s → StandAt all base (simple_sites env s) →
     FitsStmt c (simple_typed fns env base s) × IsTrue (is_simple (simple_typed fns env base s))
+
+-- the objects that declarators of a type declare, and what they are set to, are well-formed where nothing in them is an
+-- offence, and what names mean behind them fits the program again
+abbrev pub DeclaratorsFit : Type 0
+DeclaratorsFit =
+    (c : well.Scope) (all : List Site) (k : Known) (t : IntType) (constant : Bool) (ds : List Declarator) → IsType t → IsSetting c all k.fns k.scopes →
+    length c.program.locals < 2 ^ 32 → length all ≤ 2 ^ 32 →
+    IsPrefix (declarators_known t constant ds k).locals c.program.locals → IsPrefix (declarators_known t constant ds k).sites all →
+    declarators_offences t constant k ds ≡ [] → All DeclaratorBytes ds →
+    FitsList c (declarators_typed t constant k ds)
+    × IsSetting (behind_list c (declarators_typed t constant k ds)) all k.fns (declarators_known t constant ds k).scopes

@@ -3,7 +3,7 @@
 //! Nothing here does anything: each function is the statement of a law.
 #![tactic(auto)]
 
-ghost use Rattle.c_statement_laws.specs.Laws.{InitializersFit, SimplesFit};
+ghost use Rattle.c_statement_laws.specs.Laws.{DeclaratorsFit, InitializersFit, SimplesFit};
 
 /// What an object is set to is well-formed, a call with its arguments too.
 pub fn initializers_fit()
@@ -13,4 +13,9 @@ pub fn initializers_fit()
 /// An assignment, an update and a call that stands alone are well-formed.
 pub fn simples_fit()
     ensures { SimplesFit }
+{}
+
+/// What declarators declare is well-formed, and fits what stands behind them.
+pub fn declarators_fit()
+    ensures { DeclaratorsFit }
 {}
