@@ -1,0 +1,6 @@
+use Rattle.std.proofs.Common.{◌≡◌, take, vec_len}
+use Rattle.bit_sets.specs.Sets.{Clears}
+use Rattle.bit_sets.proofs.clear.Given as goal
+
+abbrev pub invariant-loop-bits : goal.invariant-loop-bits
+invariant-loop-bits l = record { len : vec_len l.table ≡ vec_len l.initial.table; clears : Clears (take l.bits-index l.set) l.initial.table.items l.table.items }
