@@ -7,7 +7,7 @@ use Rattle.clause_arena.proofs.Sets.{lit_eq-true, passing, list_all-at, list_all
 use Rattle.res_log.specs.Partial.{is_false, is_forced}
 use Rattle.cdcl.specs.Trail.{Fits}
 
-not-not : (b : Bool) → not (not b) ≡ b
+pub not-not : (b : Bool) → not (not b) ≡ b
 not-not true = refl
 not-not false = refl
 
@@ -30,7 +30,7 @@ false-at p l c f m h =
       | inr a ↦ elim (or_cases (lit_eq (opposite m) l) false a) [ inl b ↦ inr (lit_eq-true _ _ b) | inr b ↦ absurd (false≢true b) ]
     ]
 
-forced-at : (p : List Lit) (l : Lit) (r : Clause) → is_forced p l r ≡ true → (m : Lit) → has r m ≡ true → (m ≡ l) ⊎ (has p (opposite m) ≡ true)
+pub forced-at : (p : List Lit) (l : Lit) (r : Clause) → is_forced p l r ≡ true → (m : Lit) → has r m ≡ true → (m ≡ l) ⊎ (has p (opposite m) ≡ true)
 forced-at p l r f m h =
     elim (or_cases (lit_eq m l) (has p (opposite m)) (list_all-at (λ x. lit_eq x l || has p (opposite x)) r (and_parts _ _ f).1 m h)) [
       | inl a ↦ inl (lit_eq-true _ _ a)
@@ -43,7 +43,7 @@ absent p l c w f =
     false_from_ne_true _ (λ h. elim (false-at p l c f l h) [ inl a ↦ w.fresh (opposite l) a refl | inr a ↦ opposite-other l a ])
 
 -- the opposite of l is not in the clause that forces it
-absent-forced : (p : List Lit) (l : Lit) (r : Clause) → Fits p l → is_forced p l r ≡ true → has r (opposite l) ≡ false
+pub absent-forced : (p : List Lit) (l : Lit) (r : Clause) → Fits p l → is_forced p l r ≡ true → has r (opposite l) ≡ false
 absent-forced p l r w f =
     false_from_ne_true _ (λ h.
     elim (forced-at p l r f (opposite l) h) [
@@ -51,7 +51,7 @@ absent-forced p l r w f =
       | inr a ↦ w.fresh (opposite (opposite l)) a refl
     ])
 
-clash-from : (s : Bool) (c d : Clause) (v : ℕ) → has_only (not s) c v ≡ true → has_only s d v ≡ true → clash c d v ≡ true
+pub clash-from : (s : Bool) (c d : Clause) (v : ℕ) → has_only (not s) c v ≡ true → has_only s d v ≡ true → clash c d v ≡ true
 clash-from true c d v h g = or_left _ _ (and_from _ _ h g)
 clash-from false c d v h g = or_right _ _ (and_from _ _ h g)
 

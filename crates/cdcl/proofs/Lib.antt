@@ -24,3 +24,6 @@ pub mod Watching
 pub mod Marking
 pub mod Picks
 pub mod Gaining
+mod Shortening
+mod Places
+mod Restarts

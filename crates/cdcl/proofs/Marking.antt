@@ -49,10 +49,10 @@ marked-skip old seen c i l h g = record {
   only = λ v q. elim (g.only v q) [ inl a ↦ inl a | inr a ↦ inr (a.0, has-more c i a.0 l ∙ or_left _ _ a.1, a.2) ];
 }
 
-seen-same : (seen : List Bool) (v : ℕ) → v < length seen → is_seen (set seen v true) v ≡ true
+pub seen-same : (seen : List Bool) (v : ℕ) → v < length seen → is_seen (set seen v true) v ≡ true
 seen-same seen v l = get_or-set_same seen v true false l
 
-seen-other : (seen : List Bool) (v w : ℕ) → (w ≡ v → ⊥) → is_seen (set seen v true) w ≡ is_seen seen w
+pub seen-other : (seen : List Bool) (v w : ℕ) → (w ≡ v → ⊥) → is_seen (set seen v true) w ≡ is_seen seen w
 seen-other seen v w n = get_or-set_other seen v w true false n
 
 pub marked-more : (old seen : List Bool) (c : Clause) (i : ℕ) → i < length c → (get_or c i zero_lit).var < length seen → IsMarked old seen (take i c) → IsMarked old (set seen (get_or c i zero_lit).var true) (take (i + 1) c)
@@ -134,14 +134,14 @@ pub record Resolving (arena : Clauses) (p : List Lit) (vars start : ℕ) (confli
   pub once : IsEachOnce early
   pub sized : length seen ≡ vars
 
-seen-none : (n v : ℕ) → is_seen (replicate n false) v ≡ false
+pub seen-none : (n v : ℕ) → is_seen (replicate n false) v ≡ false
 seen-none n v = elim (cases_lt v n) [ inl a ↦ get_or-replicate n v false false a | inr a ↦ get_or_past (replicate n false) v false (omega (arith, a, length-replicate n false)) ]
 
 pub early-none : (p : List Lit) (start n : ℕ) (seen : List Bool) → seen ≡ replicate n false → AreEarly p start seen []
 early-none p start n seen e m = sym (ap (λ (b : Bool). b && has (take start p) (opposite m)) (ap (λ (s : List Bool). is_seen s m.var) e ∙ seen-none n m.var))
 
 -- two false literals of one variable are one
-same-var : (p : List Lit) (c : Clause) (m x : Lit) → IsConsistent p → has p (opposite x) ≡ true → has p (opposite m) ≡ true → has c x ≡ true → x.var ≡ m.var → has c m ≡ true
+pub same-var : (p : List Lit) (c : Clause) (m x : Lit) → IsConsistent p → has p (opposite x) ≡ true → has p (opposite m) ≡ true → has c x ≡ true → x.var ≡ m.var → has c m ≡ true
 same-var p c m x h a b k e =
     elim (var-cases m x (sym e)) [
       | inl u ↦ ap (has c) u ∙ k
@@ -149,7 +149,7 @@ same-var p c m x h a b k e =
     ]
 
 -- marks on the variables of a false clause
-start-marks : (p : List Lit) (n : ℕ) (old seen : List Bool) (c : Clause) → IsConsistent p → old ≡ replicate n false → IsMarked old seen c → is_false p c ≡ true → (m : Lit) → has c m ≡ (is_seen seen m.var && has p (opposite m))
+pub start-marks : (p : List Lit) (n : ℕ) (old seen : List Bool) (c : Clause) → IsConsistent p → old ≡ replicate n false → IsMarked old seen c → is_false p c ≡ true → (m : Lit) → has c m ≡ (is_seen seen m.var && has p (opposite m))
 start-marks p n old seen c h e g f m =
     bool_iff _ _ (λ q. and_from _ _ (g.all m q) (list_all-at (λ x. has p (opposite x)) c f m q))
     (λ q.
@@ -341,7 +341,7 @@ learned-same p seen early current start i n h e l b s g f o m =
           or_left _ _ (g m ∙ and_from _ _ w.0 (list_all-at (λ y. has (take start p) (opposite y)) (without x.var current) o m (has-without x.var current m ∙ and_from _ _ q (not_from_false _ (ne_eqb _ _ a)))))
     ])
 
-chain-same : (arena : Clauses) (conflict : ClauseId) (steps : List ChainStep) (c d : Clause) → ((m : Lit) → has d m ≡ has c m) → ForSome (clause_at arena conflict.0) (λ x. IsSomeAnd (chain (clause_at arena) steps x) (λ r. is_same r c ≡ true)) → ForSome (clause_at arena conflict.0) (λ x. IsSomeAnd (chain (clause_at arena) steps x) (λ r. is_same r d ≡ true))
+pub chain-same : (arena : Clauses) (conflict : ClauseId) (steps : List ChainStep) (c d : Clause) → ((m : Lit) → has d m ≡ has c m) → ForSome (clause_at arena conflict.0) (λ x. IsSomeAnd (chain (clause_at arena) steps x) (λ r. is_same r c ≡ true)) → ForSome (clause_at arena conflict.0) (λ x. IsSomeAnd (chain (clause_at arena) steps x) (λ r. is_same r d ≡ true))
 chain-same arena conflict steps c d s g x e =
     let w = some-parts (chain (clause_at arena) steps x) (λ r. is_same r c ≡ true) (g x e) in
     some-and (chain (clause_at arena) steps x) (λ r. is_same r d ≡ true) w.0 w.1 (is_same-from w.0 d (λ y. is_same-at w.0 c w.2 y ∙ sym (s y)))

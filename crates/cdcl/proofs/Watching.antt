@@ -236,12 +236,15 @@ pub first-below : (arena : Clauses) (n id : ℕ) (c : Clause) → AllClauses (is
 first-below arena n id c b o e = below-at n c (get_or c 0 zero_lit) (b id c e) (has-at c 0 zero_lit (open-some c (o id c e)))
 
 -- all decisions were looked at but those from the head on
-looked-at : (rs : Reasons) (start head : ℕ) → IsLastDecision rs start → AreForcedFrom rs (head + 1) → start ≤ head
-looked-at rs start head l f =
+pub looked-before : (rs : Reasons) (start head : ℕ) → start < length rs → ((o : Option ClauseId) → get_or rs start o ≡ None) → AreForcedFrom rs (head + 1) → start ≤ head
+looked-before rs start head l d f =
     elim (cases_lt head start) [
-      | inl a ↦ absurd (false≢true (sym (ap is_some (l.1 None)) ∙ f start None (omega arith) l.0))
+      | inl a ↦ absurd (false≢true (sym (ap is_some (d None)) ∙ f start None (omega arith) l))
       | inr a ↦ a
     ]
+
+looked-at : (rs : Reasons) (start head : ℕ) → IsLastDecision rs start → AreForcedFrom rs (head + 1) → start ≤ head
+looked-at rs start head l f = looked-before rs start head l.0 l.1 f
 
 pub learned-in : (arena more : Clauses) (n h : ℕ) (p q : List Lit) (rs ss : Reasons) (ls : List (List ClauseId)) (ps qs : List Pair) → more ≡ arena → q ≡ p → ss ≡ rs → n ≡ h → qs ≡ ps → IsWatched arena p rs h ls ps → IsWatched more q ss n ls qs
 learned-in arena more n h p q rs ss ls ps qs a b c d e g =

@@ -1,7 +1,13 @@
 -- A clause that is being derived, as marks on its variables.
-use Rattle.std.specs.Prelude.{◌≡◌, ℕ, ◌<◌, ◌≤◌, ◌⊎◌, Bool, true, false, ◌&&◌, List, take, slice_index_or}
+use Rattle.std.specs.Prelude.{◌≡◌, ℕ, ◌<◌, ◌≤◌, ◌⊎◌, Bool, true, false, not, ◌&&◌, List, length, take, slice_index_or}
+use Rattle.std.specs.List.{filter}
 use Rattle.clause_arena.specs.declared.Lit.{Lit}
-use Rattle.clause_arena.specs.Clause.{Clause, opposite, has}
+use Rattle.clause_arena.specs.declared.ClauseId.{ClauseId}
+use Rattle.clause_arena.specs.Clause.{Clause, Clauses, opposite, has, IsEachOnce}
+use Rattle.res_log.specs.declared.ChainStep.{ChainStep}
+use Rattle.res_log.specs.Partial.{IsAsserting}
+use Rattle.cdcl.specs.declared.trail.Trail.{Trail}
+use Rattle.cdcl.specs.Held.{vars_of, IsChainOf}
 
 -- the variable is marked
 abbrev pub is_seen : List Bool → ℕ → Bool
@@ -24,3 +30,17 @@ IsUnmarked p seen start i = (k : ℕ) (d : Lit) → start ≤ k → k < i → is
 -- some literal from start up to i has a marked variable
 abbrev pub HasMarked : List Lit → List Bool → ℕ → ℕ → Type 0
 HasMarked p seen start i = (k : ℕ) × (start ≤ k) × (k < i) × ((d : Lit) → is_seen seen (slice_index_or p k d).var ≡ true)
+
+-- the literals of variables that were not taken out
+abbrev pub left : List Bool → Clause → Clause
+left gone c = filter (λ m. not (is_seen gone m.var)) c
+
+-- while a derived clause is made smaller: the literals are those that are false of seen variables, and those of
+-- variables that were not taken out are what the steps derive
+pub record IsShortening (arena : Clauses) (t : Trail) (start : ℕ) (conflict : ClauseId) (steps : List ChainStep) (seen gone : List Bool) (lits : Clause) : Type 0 where
+  pub collected : AreEarly t.lits.items (length t.lits.items) seen lits
+  pub once : IsEachOnce lits
+  pub sized_seen : length seen ≡ vars_of t
+  pub sized_gone : length gone ≡ vars_of t
+  pub chained : IsChainOf arena conflict steps (left gone lits)
+  pub asserting : IsAsserting (take start t.lits.items) (left gone lits)

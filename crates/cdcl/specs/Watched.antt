@@ -1,5 +1,5 @@
 -- Two literals of each clause are watched, so that propagation looks at a clause only where one of them became false.
-use Rattle.std.specs.Prelude.{◌≡◌, ℕ, ◌<◌, ◌≤◌, ◌⊎◌, true, false, List, [], length, take, Option, None, slice_index_or, Contains, if◌then◌else◌, ◌+◌, ◌*◌}
+use Rattle.std.specs.Prelude.{◌≡◌, ℕ, ◌<◌, ◌≤◌, ◌⊎◌, true, false, List, [], length, take, Option, None, slice_index_or, Contains, if◌then◌else◌, ◌+◌, ◌*◌, ◌||◌}
 use Rattle.std.specs.Option.{ForSome}
 use Rattle.clause_arena.specs.declared.Lit.{Lit}
 use Rattle.clause_arena.specs.declared.ClauseId.{ClauseId}
@@ -70,6 +70,16 @@ pub record IsSized (arena : Clauses) (vars : ℕ) (lists : List (List ClauseId))
 -- the literal is one of the pair, and the other one is the answer
 abbrev pub IsOther : Pair → Lit → Lit → Type 0
 IsOther two w other = ((two.first ≡ w) × (other ≡ two.second)) ⊎ ((two.second ≡ w) × (other ≡ two.first))
+
+-- from one place up to another, each literal of the clause is false or the other one that is watched
+abbrev pub AreFalseBut : List Lit → Clause → Lit → ℕ → ℕ → Type 0
+AreFalseBut p c other from end =
+    (i : ℕ) (d : Lit) → from ≤ i → i < end → (lit_eq (slice_index_or c i d) other || has p (opposite (slice_index_or c i d))) ≡ true
+
+-- the literal of the clause at the place isn't false, and isn't the other one
+abbrev pub IsOpenPlace : List Lit → Clause → Lit → ℕ → Type 0
+IsOpenPlace p c other i =
+    (i < length c) × ((d : Lit) → lit_eq (slice_index_or c i d) other ≡ false) × ((d : Lit) → has p (opposite (slice_index_or c i d)) ≡ false)
 
 -- what a visit of a clause finds, one of whose watched literals is false
 abbrev pub Finds : List Lit → Clause → Lit → Visit → Type 0

@@ -13,6 +13,7 @@ ghost use Rattle.cdcl.specs.Answer.{Keeps};
 ghost use Rattle.cdcl.specs.Watching.{IsWatching, HasNewest, IsBefore};
 
 use crate::analyze::{resolve_back, resolve_to_empty};
+use crate::shorten::shorten;
 use crate::trail::{Trail, negated};
 use crate::watch::{Pair, Watches};
 use clause_arena::{ClauseArena, ClauseId, Lit};
@@ -129,7 +130,8 @@ pub fn learn_reserved(
     ensures bounded { length arena.new.clauses ≤ length arena.old.clauses + 1 }
 {
     let mut steps: Vec<ChainStep> = Vec::new(alloc);
-    let learned = resolve_back(alloc, arena, trail, start, conflict, &mut steps)?;
+    let derived = resolve_back(alloc, arena, trail, start, conflict, &mut steps)?;
+    let learned = shorten(alloc, arena, trail, start, conflict, derived, &mut steps)?;
     let level = level_end(trail, learned.as_slice(), start);
     trail.back_to(level.end);
     let id = arena.push_reserved(learned.as_slice());

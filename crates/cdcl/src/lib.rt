@@ -32,8 +32,15 @@ mod counts;
 // A false clause becomes a new one.
 mod analyze;
 
+// Which literals of it are worth taking out, and how they are.
+mod shorten;
+mod spares;
+
 // The new clause is stored and logged, and the trail goes back.
 mod learn;
+
+// The search begins anew from time to time.
+mod restart;
 
 // One turn of the search: propagation, and then a decision or what a conflict leads to.
 mod turn;
@@ -46,6 +53,7 @@ pub use counts::Counts;
 use learn::refute;
 pub use order::OrderChooser;
 use res_log::{Log, has_empty_clause};
+use restart::Pace;
 use start::watch_all;
 use std::alloc::{AllocError, Global};
 use trail::Trail;
@@ -118,6 +126,7 @@ pub fn solve_counted(
         }
         None => {}
     }
+    let mut pace = Pace::new();
     'search: loop {
         match turn(
             alloc,
@@ -127,6 +136,7 @@ pub fn solve_counted(
             &mut watches,
             chooser,
             budget,
+            &mut pace,
             counts,
         )? {
             Outcome::Again => continue,

@@ -7,7 +7,7 @@ ghost use Rattle.clause_arena.specs.declared.Lit.{Lit as TrueLit};
 ghost use Rattle.cdcl.specs.Trail.{AllClauses, AreForcedFrom};
 ghost use Rattle.cdcl.specs.Held.{vars_of, IsKept, reasons_of, Spreads};
 ghost use Rattle.cdcl.specs.Work.{IsConflict, IsSettled};
-ghost use Rattle.cdcl.specs.Watched.{Finds, slot_of, listed, IsWatched, IsSized, AreVisited};
+ghost use Rattle.cdcl.specs.Watched.{Finds, AreFalseBut, IsOpenPlace, slot_of, listed, IsWatched, IsSized, AreVisited};
 ghost use Rattle.cdcl.specs.Watching.{IsWatching};
 
 use crate::trail::{Trail, is_same_lit, negated};
@@ -28,8 +28,30 @@ pub enum Visit {
     Falsified,
 }
 
-/// Looks for a literal to watch in place of one that became false.
-pub fn find_watch(trail: &Trail, clause: &[Lit], other: Lit) -> Visit
+/// Looks in a part of a clause for a literal that isn't false and isn't the other one.
+pub fn open_place(
+    trail: &Trail,
+    clause: &[Lit],
+    other: Lit,
+    from: usize,
+    end: usize,
+) -> Option<usize>
+    requires below { is_below (vars_of trail.now) clause.now ≡ true }
+    requires end { end ≤ length clause.now }
+    ensures { MatchOption result (AreFalseBut trail.now.lits.items clause.now other from end) (IsOpenPlace trail.now.lits.items clause.now other) }
+{
+    for place in from..end {
+        let l = clause[place];
+        if !is_same_lit(l, other) && !trail.holds(negated(l)) {
+            return Some(place);
+        }
+    }
+    None
+}
+
+/// Looks for a literal to watch in place of one that became false, from the spot on where the search
+/// before ended, and then in what stands before it.
+pub fn find_watch(trail: &Trail, clause: &[Lit], other: Lit, spot: &mut usize) -> Visit
     requires below { is_below (vars_of trail.now) clause.now ≡ true }
     requires other { has clause.now other ≡ true }
     requires small { other.var < vars_of trail.now }
@@ -38,13 +60,20 @@ pub fn find_watch(trail: &Trail, clause: &[Lit], other: Lit) -> Visit
     if trail.holds(other) {
         return Visit::Stays;
     }
-    for l in clause {
-        if is_same_lit(*l, other) {
-            continue;
+    let from = (*spot).min(clause.len());
+    match open_place(trail, clause, other, from, clause.len()) {
+        Some(place) => {
+            *spot = place;
+            return Visit::Moves(clause[place]);
         }
-        if !trail.holds(negated(*l)) {
-            return Visit::Moves(*l);
+        None => {}
+    }
+    match open_place(trail, clause, other, 0, from) {
+        Some(place) => {
+            *spot = place;
+            return Visit::Moves(clause[place]);
         }
+        None => {}
     }
     if trail.holds(negated(other)) {
         return Visit::Falsified;
@@ -89,7 +118,8 @@ pub fn pass(
             }
             Some(other) => other,
         };
-        match find_watch(trail, arena.lits(id), other) {
+        let mut spot = watches.spot_of(id);
+        match find_watch(trail, arena.lits(id), other, &mut spot) {
             Visit::Stays => {
                 i += 1;
                 continue;
@@ -109,6 +139,7 @@ pub fn pass(
                         first: z,
                         second: other,
                     },
+                    spot,
                 );
                 continue;
             }

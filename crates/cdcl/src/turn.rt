@@ -13,6 +13,7 @@ ghost use Rattle.cdcl.specs.Watching.{IsWatching};
 use crate::chooser::Chooser;
 use crate::counts::{Counts, propagate_counted};
 use crate::learn::{learn, refute};
+use crate::restart::{Pace, restart};
 use crate::trail::Trail;
 use crate::watch::Watches;
 use clause_arena::{Bits, ClauseArena, ClauseId, Lit};
@@ -92,6 +93,7 @@ pub fn end_conflict(
     watches: &mut Watches,
     chooser: &mut Box<dyn Chooser>,
     budget: u64,
+    pace: &mut Pace,
     conflict: ClauseId,
 ) -> Result<Outcome, AllocError>
     requires room { length arena.old.clauses < 4294967295 }
@@ -120,6 +122,9 @@ pub fn end_conflict(
         return Ok(Outcome::Spent);
     }
     report(chooser, arena.lits(id));
+    if pace.is_over() {
+        restart(arena, trail, watches);
+    }
     Ok(Outcome::Again)
 }
 
@@ -132,6 +137,7 @@ pub fn turn(
     watches: &mut Watches,
     chooser: &mut Box<dyn Chooser>,
     budget: u64,
+    pace: &mut Pace,
     counts: &mut Counts,
 ) -> Result<Outcome, AllocError>
     requires room { length arena.old.clauses < 4294967295 }
@@ -149,7 +155,9 @@ pub fn turn(
 {
     match propagate_counted(arena, trail, watches, counts)? {
         Some(conflict) => {
-            return end_conflict(alloc, arena, log, trail, watches, chooser, budget, conflict);
+            return end_conflict(
+                alloc, arena, log, trail, watches, chooser, budget, pace, conflict,
+            );
         }
         None => {}
     }

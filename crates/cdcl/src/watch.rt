@@ -32,6 +32,8 @@ pub struct Watches {
     lists: Vec<Vec<ClauseId>>,
     /// For each id the two literals that its clause watches.
     pairs: Vec<Pair>,
+    /// For each id where the search for another literal ended last; no contract speaks of it.
+    spots: Vec<usize>,
     /// How many literals of the trail were looked at.
     head: usize,
 }
@@ -59,6 +61,7 @@ impl Watches {
         Ok(Watches {
             lists,
             pairs: Vec::new(alloc),
+            spots: Vec::new(alloc),
             head: 0,
         })
     }
@@ -86,6 +89,7 @@ impl Watches {
         ensures { OnOk result (IsAdded self.old self.new id two) }
     {
         self.pairs.push(two)?;
+        self.spots.push(0)?;
         self.add_under(two.first, id)?;
         self.add_under(two.second, id)?;
         Ok(())
@@ -105,6 +109,7 @@ impl Watches {
             first: none,
             second: none,
         })?;
+        self.spots.push(0)?;
         Ok(())
     }
 
@@ -161,12 +166,26 @@ impl Watches {
         self.lists[slot(l)].swap_remove(i);
     }
 
-    /// Gives a clause a pair.
-    pub fn set_pair(&mut self, id: ClauseId, two: Pair)
+    /// Where the search for another literal of the clause ended last.
+    pub fn spot_of(&self, id: ClauseId) -> usize {
+        let at = id.0 as usize;
+        if at < self.spots.len() {
+            self.spots[at]
+        } else {
+            0
+        }
+    }
+
+    /// Gives a clause a pair, and keeps where the search for its first literal ended.
+    pub fn set_pair(&mut self, id: ClauseId, two: Pair, spot: usize)
         requires { id.0 < length self.old.pairs }
         ensures pairs { self.new.pairs ≡ slice_set self.old.pairs id.0 two }
         ensures lists { self.new.lists ≡ self.old.lists }
     {
-        self.pairs[id.0 as usize] = two;
+        let at = id.0 as usize;
+        self.pairs[at] = two;
+        if at < self.spots.len() {
+            self.spots[at] = spot;
+        }
     }
 }

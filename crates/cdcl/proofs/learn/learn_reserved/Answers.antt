@@ -23,6 +23,9 @@ pub resolve_back-requires-clause-two : goal.resolve_back-requires-clause-two
 resolve_back-requires-clause-two c =
     two-at c.args.arena.now.clauses (vars_of c.args.trail.now) c.args.trail.now.lits.items (reasons_of c.args.trail.now) c.args.start c.args.conflict c.requires.kept c.requires.last c.requires.conflict
 
+pub returns-in_err-derived-clause-clauses : goal.returns-in_err-derived-clause-clauses
+returns-in_err-derived-clause-clauses c = keeps-same c.args.arena.now.clauses c.args.arena.now.clauses refl
+
 pub returns-in_err-learned-clause-clauses : goal.returns-in_err-learned-clause-clauses
 returns-in_err-learned-clause-clauses c = keeps-same c.args.arena.now.clauses c.args.arena.now.clauses refl
 
