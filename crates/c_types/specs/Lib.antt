@@ -1,0 +1,3 @@
+pub mod Externals
+pub mod Files
+pub mod Ends
