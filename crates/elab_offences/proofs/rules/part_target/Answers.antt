@@ -1,0 +1,6 @@
+use Rattle.elab_offences.specs.Rules.{assigned_offences, bits_offences}
+use Rattle.elab_offences.proofs.Noting.{notes_then}
+use Rattle.elab_offences.proofs.rules.part_target.Goals as goal
+
+pub returns : goal.returns
+returns c = notes_then (assigned_offences c.args.register c.args.place c.args.entry.now) (bits_offences c.args.place c.args.entry.now c.args.c) _ _ _ c.assigned.ensures c.bits.ensures
