@@ -15,9 +15,10 @@ use Rattle.hwcbmc_core.specs.declared.sources.Counter.{Counter}
 use Rattle.hwcbmc_core.specs.Sources.{IsProgram, IsCounter}
 use Rattle.hwcbmc_core.proofs.SourceLemmas.{same_program, same_counter}
 use Rattle.hwcbmc_core.specs.Forms.{fit_forms}
-use Rattle.hwcbmc_core.specs.Answers.{FitsLength, AreRead, RefusesTexts, c_refused, v_refused, options_unsupported, c_unsupported, v_unsupported, c_too_long, v_too_long, of_texts, unread, HoldsOf, Judges, IsTraceOfBreak, IsJudged, IsRightFor}
+use Rattle.hwcbmc_core.specs.Answers.{FitsLength, AreRead, RefusesTexts, c_refused, v_refused, c_offends, options_unsupported, c_unsupported, v_unsupported, c_too_long, v_too_long, of_texts, unread, HoldsOf, Judges, IsTraceOfBreak, IsJudged, IsRightFor}
 use Rattle.hwcbmc_core.specs.Runs.{Property, CanBreak}
 use Rattle.hwcbmc_core.specs.Trees.{HasTreeIn, IsRefused}
+use Rattle.hwcbmc_core.specs.Typing.{IsClean, Offends}
 
 -- what a reading that failed leaves
 pub record LeavesUnread (name : List ℕ) (told : Option (List ℕ)) (before after : Reading) (end : ReadEnd) : Type 0 where
@@ -76,7 +77,7 @@ judges_told options told c_text v_text Holds c_whole v_whole judged =
 
 -- what holds of the pair that was read holds of each pair that the texts are
 pub holds_of : (options : Options) (c_text v_text : List ℕ) (program : Program) (counter : Counter) (Holds : Program → Counter → Type 0)
-    → fit_forms options ≡ true → HasTreeIn C c_text → HasTreeIn V v_text → IsProgram c_text program → IsCounter v_text counter → Holds program counter
+    → fit_forms options ≡ true → IsClean c_text → HasTreeIn V v_text → IsProgram c_text program → IsCounter v_text counter → Holds program counter
     → HoldsOf options c_text v_text Holds
 holds_of options c_text v_text program counter Holds fit c_read v_read is_program is_counter holds = (
   fit,
@@ -98,13 +99,15 @@ refuses_told options c_told v_told c_text v_text file refusal c_whole v_whole (c
     c_refused r (told_of (λ text. IsRefused C text r) c_told c_text c_whole refused)
 refuses_told options c_told v_told c_text v_text file refusal c_whole v_whole (v_refused r read refused) =
     v_refused r (told_of (HasTreeIn C) c_told c_text c_whole read) (told_of (λ text. IsRefused V text r) v_told v_text v_whole refused)
+refuses_told options c_told v_told c_text v_text file refusal c_whole v_whole (c_offends r offends read) =
+    c_offends r (told_of (λ text. Offends text r) c_told c_text c_whole offends) (told_of (HasTreeIn V) v_told v_text v_whole read)
 refuses_told options c_told v_told c_text v_text file refusal c_whole v_whole (options_unsupported c_read v_read unfit) =
-    options_unsupported (told_of (HasTreeIn C) c_told c_text c_whole c_read) (told_of (HasTreeIn V) v_told v_text v_whole v_read) unfit
+    options_unsupported (told_of IsClean c_told c_text c_whole c_read) (told_of (HasTreeIn V) v_told v_text v_whole v_read) unfit
 refuses_told options c_told v_told c_text v_text file refusal c_whole v_whole (c_unsupported c_read v_read none) =
-    c_unsupported (told_of (HasTreeIn C) c_told c_text c_whole c_read) (told_of (HasTreeIn V) v_told v_text v_whole v_read)
+    c_unsupported (told_of IsClean c_told c_text c_whole c_read) (told_of (HasTreeIn V) v_told v_text v_whole v_read)
     (told_of (λ text. (program : Program) → ¬ (IsProgram text program)) c_told c_text c_whole none)
 refuses_told options c_told v_told c_text v_text file refusal c_whole v_whole (v_unsupported c_read v_read is none) =
-    v_unsupported (told_of (HasTreeIn C) c_told c_text c_whole c_read) (told_of (HasTreeIn V) v_told v_text v_whole v_read)
+    v_unsupported (told_of IsClean c_told c_text c_whole c_read) (told_of (HasTreeIn V) v_told v_text v_whole v_read)
     (told_of (λ text. (program : Program) × IsProgram text program) c_told c_text c_whole is)
     (told_of (λ text. (counter : Counter) → ¬ (IsCounter text counter)) v_told v_text v_whole none)
 

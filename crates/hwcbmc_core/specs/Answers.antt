@@ -19,6 +19,7 @@ use Rattle.command_options.specs.Options.{options_of}
 use Rattle.hwcbmc_core.specs.Forms.{fit_forms}
 use Rattle.hwcbmc_core.specs.Sources.{IsProgram, IsCounter}
 use Rattle.hwcbmc_core.specs.Trees.{HasTreeIn, IsRefused}
+use Rattle.hwcbmc_core.specs.Typing.{IsClean, Offends}
 use Rattle.hwcbmc_core.specs.Runs.{Property, Broken, run_of, CanBreak}
 use Rattle.hwcbmc_core.specs.Trace.{trace_text}
 
@@ -57,19 +58,21 @@ pub record AreRead (options : Options) (told : List ℕ → Option (List ℕ)) (
   pub c_fits : FitsLength (told options.c_file)
   pub v_fits : FitsLength (told options.v_file)
 
--- The first refusal of two texts, as far as they are told, in order: one that has no tree, C first; then options that the
--- written forms don't fit; then a text that isn't of its written form, C first.
+-- The first refusal of two texts, as far as they are told, in order: one that has no tree, C first; then the first offence
+-- of the C text; then options that the written forms don't fit; then a text that isn't of its written form, C first.
 pub data RefusesTexts (options : Options) (c_told v_told : Option (List ℕ)) : List ℕ → Refusal → Type 0 where
   c_refused : (refusal : Refusal) → IfSome c_told (λ text. IsRefused C text refusal)
       → RefusesTexts options c_told v_told options.c_file refusal
   v_refused : (refusal : Refusal) → IfSome c_told (HasTreeIn C) → IfSome v_told (λ text. IsRefused V text refusal)
       → RefusesTexts options c_told v_told options.v_file refusal
-  options_unsupported : IfSome c_told (HasTreeIn C) → IfSome v_told (HasTreeIn V) → fit_forms options ≡ false
+  c_offends : (refusal : Refusal) → IfSome c_told (λ text. Offends text refusal) → IfSome v_told (HasTreeIn V)
+      → RefusesTexts options c_told v_told options.c_file refusal
+  options_unsupported : IfSome c_told IsClean → IfSome v_told (HasTreeIn V) → fit_forms options ≡ false
       → RefusesTexts options c_told v_told options.c_file (at_beginning C Unsupported)
-  c_unsupported : IfSome c_told (HasTreeIn C) → IfSome v_told (HasTreeIn V)
+  c_unsupported : IfSome c_told IsClean → IfSome v_told (HasTreeIn V)
       → IfSome c_told (λ text. (program : Program) → ¬ (IsProgram text program))
       → RefusesTexts options c_told v_told options.c_file (at_beginning C Unsupported)
-  v_unsupported : IfSome c_told (HasTreeIn C) → IfSome v_told (HasTreeIn V)
+  v_unsupported : IfSome c_told IsClean → IfSome v_told (HasTreeIn V)
       → IfSome c_told (λ text. (program : Program) × IsProgram text program)
       → IfSome v_told (λ text. (counter : Counter) → ¬ (IsCounter text counter))
       → RefusesTexts options c_told v_told options.v_file (at_beginning V Unsupported)
@@ -84,10 +87,11 @@ pub data IsFirstRefusal (options : Options) (told : List ℕ → Option (List �
       → RefusesTexts options (told options.c_file) (told options.v_file) file refusal
       → IsFirstRefusal options told before after file refusal
 
--- The written forms fit the options, both texts have trees and are of their forms, and what is said holds of the pair that they are.
+-- The written forms fit the options, both texts have trees, that of the C text without offence, and are of their forms, and what
+-- is said holds of the pair that they are.
 abbrev pub HoldsOf : Options → List ℕ → List ℕ → (Program → Counter → Type 0) → Type 0
 HoldsOf options c_text v_text Holds =
-    (fit_forms options ≡ true) × HasTreeIn C c_text × HasTreeIn V v_text
+    (fit_forms options ≡ true) × IsClean c_text × HasTreeIn V v_text
     × ((program : Program) × IsProgram c_text program) × ((counter : Counter) × IsCounter v_text counter)
     × ((program : Program) (counter : Counter) → IsProgram c_text program → IsCounter v_text counter → Holds program counter)
 

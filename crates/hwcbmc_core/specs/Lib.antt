@@ -4,5 +4,6 @@ pub mod Sources
 pub mod Runs
 pub mod Trace
 pub mod Trees
+pub mod Typing
 pub mod Answers
 pub mod Delivery

@@ -1,16 +1,20 @@
 //! The answer of the command, from its words and its files.
 
 ghost use Rattle.std.specs.Prelude.{◌≡◌, ◌≤◌, length, map, string_bytes};
-ghost use Rattle.src_text.specs.declared.refusal.Lang.TheVariants.{C, V};
+ghost use Rattle.src_text.specs.declared.refusal.Lang.TheVariants.{V};
 ghost use Rattle.hwcbmc_core.specs.Answers.{IsRight, IsRightFor, IsJudged};
+ghost use Rattle.c_parse.specs.Ends.{HasTree as HasCTree};
+ghost use Rattle.v_parse.specs.Ends.{HasTree as HasVTree};
 ghost use Rattle.hwcbmc_core.specs.Trees.{HasTreeIn};
+ghost use Rattle.hwcbmc_core.specs.Typing.{IsClean};
 
 use crate::answer::Answer;
 use crate::forms::fit_forms;
 use crate::judging::breaks;
-use crate::reading::{TreesEnd, read_texts};
+use crate::reading::{Trees, TreesEnd, read_texts};
 use crate::sources::{read_c, read_v};
 use crate::tracing::trace;
+use c_types::{TypeEnd, typed};
 use command_options::{Options, UsageEnd, options};
 use io_edge::{Files, read_all};
 use src_text::{Kind, Lang};
@@ -51,17 +55,38 @@ fn judge(alloc: Global, options: Options, c_text: &[u8], v_text: &[u8]) -> Answe
     ensures { IsJudged options c_text.now v_text.now result }
 {
     match read_texts(alloc, c_text, v_text) {
-        Ok(_trees) => verdict(alloc, options, c_text, v_text),
+        Ok(trees) => typed_verdict(alloc, options, &trees, c_text, v_text),
         Err(TreesEnd::CRefused(refusal)) => Answer::Refused(options.c_file, refusal),
         Err(TreesEnd::VRefused(refusal)) => Answer::Refused(options.v_file, refusal),
         Err(TreesEnd::Memory) => Answer::Memory,
     }
 }
 
-/// The verdict on texts that have trees, which must be of the written forms, as the options must be.
+/// The first offence of the C text, or else the verdict on the texts.
+fn typed_verdict(
+    alloc: Global,
+    options: Options,
+    trees: &Trees,
+    c_text: &[u8],
+    v_text: &[u8],
+) -> Answer
+    requires c_fits { length c_text.now ≤ 1048576 }
+    requires c_read { HasCTree c_text.now trees.now.c_tree }
+    requires v_read { HasVTree v_text.now trees.now.v_tree }
+    ensures { IsJudged options c_text.now v_text.now result }
+{
+    match typed(alloc, &trees.c_tree) {
+        Ok(_program) => verdict(alloc, options, c_text, v_text),
+        Err(TypeEnd::Refused(refusal)) => Answer::Refused(options.c_file, refusal),
+        Err(TypeEnd::Memory) => Answer::Memory,
+    }
+}
+
+/// The verdict on texts that have trees, that of the C text without offence. They must be of the written forms, as the
+/// options must be.
 fn verdict(alloc: Global, options: Options, c_text: &[u8], v_text: &[u8]) -> Answer
     requires c_fits { length c_text.now ≤ 1048576 }
-    requires c_read { HasTreeIn C c_text.now }
+    requires c_read { IsClean c_text.now }
     requires v_read { HasTreeIn V v_text.now }
     ensures { IsJudged options c_text.now v_text.now result }
 {

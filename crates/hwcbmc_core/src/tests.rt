@@ -111,12 +111,14 @@ const USAGE: &str =
     "hwcbmc: usage: hwcbmc [--module NAME] [--bound K] [--unwind N] [--unwindset LIST] [--budget B] [--decide order|activity] [--check-bound] C_FILE V_FILE\n";
 
 /// The files beside those that are nested.
-const TEXTS: [(&str, &str); 10] = [
+const TEXTS: [(&str, &str); 12] = [
     ("c.c", C_TEXT),
     ("counter.v", V_TEXT),
     ("empty.c", ""),
     ("word.c", "int 3;"),
     ("end.c", "int main(void) {\n"),
+    ("plain.c", "int main(void) { }"),
+    ("name.c", "int main(void) {\n  n = 1;\n  int t[0];\n}"),
     ("input.v", "module m(input a;"),
     ("list.v", "module m(a, input b);"),
     ("end.v", "module m;"),
@@ -263,7 +265,25 @@ fn refusals_come_in_order_and_leave_out_alone(rt: HostRuntime) -> Result<(), Fai
             words: &["empty.c", "m.v"],
             fails_at: 0,
             status: 6,
-            err: "hwcbmc: empty.c:1:1: unsupported\n",
+            err: "hwcbmc: empty.c:1:1: no main\n",
+        },
+        Refused {
+            words: &["name.c", "m.v"],
+            fails_at: 0,
+            status: 6,
+            err: "hwcbmc: name.c:2:3: unknown name\n",
+        },
+        Refused {
+            words: &["name.c", "twice.v"],
+            fails_at: 0,
+            status: 6,
+            err: "hwcbmc: twice.v:1:21: syntax error\n",
+        },
+        Refused {
+            words: &["plain.c", "m.v"],
+            fails_at: 0,
+            status: 6,
+            err: "hwcbmc: plain.c:1:1: unsupported\n",
         },
         Refused {
             words: &["c.c", "m.v"],
