@@ -57,7 +57,7 @@ use Rattle.unwind_simple.specs.Simple.{setting_of, is_in, MayAsk, IsValued, stor
 
 -- what a number of a word says of the word
 
-zero_number : (s : Bool) (w n : ℕ) → is_zero (number s w n) ≡ at_zero n true false
+pub zero_number : (s : Bool) (w n : ℕ) → is_zero (number s w n) ≡ at_zero n true false
 zero_number false w zero = refl
 zero_number false w (suc n) = refl
 zero_number true w zero = signed_zero (2 ^ w) (pow_pos w)

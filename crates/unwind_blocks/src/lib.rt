@@ -1,0 +1,7 @@
+//! Statements in one another, unwound under a guard.
+#![tactic(auto)]
+
+mod blocks;
+mod tests_of;
+
+pub use blocks::stmt;
