@@ -41,15 +41,16 @@ use Rattle.c_statements.specs.Statements.{again_offences, declared_name, pending
 use Rattle.c_meaning.specs.Sound.{AreThere, AreProps, IsThere}
 use Rattle.c_meaning.proofs.Means.{stand_left, stand_right}
 use Rattle.c_meaning.proofs.Fits.{converted_fits, expression_fits}
-use Rattle.c_statement_laws.specs.Agreeing.{AllBytes, DeclaratorBytes, IsPrefix, IsSetting, FitsList, behind_list}
+use Rattle.joint_lists.specs.Lists.{FitsItems}
+use Rattle.c_statement_laws.specs.Agreeing.{AllBytes, DeclaratorBytes, IsPrefix, IsSetting, behind_items}
 use Rattle.c_statement_laws.proofs.Inits.{none_left, none_right, init_fits}
 use Rattle.c_statement_laws.proofs.Simples.{has_signature}
 use Rattle.c_statement_laws.proofs.Names.{setting_with, setting_more, pending_fits, object_fits}
 
-prefix_then : {A : Type 0} (xs ys zs : List A) → IsPrefix xs ys → IsPrefix ys zs → IsPrefix xs zs
+pub prefix_then : {A : Type 0} (xs ys zs : List A) → IsPrefix xs ys → IsPrefix ys zs → IsPrefix xs zs
 prefix_then xs ys zs p q i x h = q i x (p i x h)
 
-prefix_append : {A : Type 0} (xs ys : List A) → IsPrefix xs (xs ++ ys)
+pub prefix_append : {A : Type 0} (xs ys : List A) → IsPrefix xs (xs ++ ys)
 prefix_append [] ys i x h = absurd (cc)
 prefix_append (z ∷ xs) ys zero x h = h
 prefix_append (z ∷ xs) ys (suc i) x h = prefix_append xs ys i x h
@@ -63,7 +64,7 @@ length_end [] x = refl
 length_end (z ∷ xs) x = ap suc (length_end xs x) ∙ (let e : suc (length xs + 1) ≡ suc (length xs) + 1 = omega arith in e)
 
 -- properties that stand behind others stand from their place on
-stand_behind : (all before behind : List Site) → length all ≤ 4294967296 → IsPrefix (before ++ behind) all → StandAt all (length before) behind
+pub stand_behind : (all before behind : List Site) → length all ≤ 4294967296 → IsPrefix (before ++ behind) all → StandAt all (length before) behind
 stand_behind all before [] few p = tt
 stand_behind all before (s ∷ ss) few p =
     let here : slice_get all (length before) ≡ Some s = p (length before) s (get_end before s ss) in
@@ -114,7 +115,7 @@ no_path_same env other (expression.Conditional' _ (expression.more_of-Expression
     ∙ ap (λ os. offences_in other condition ++ (offences_in other first ++ os)) (no_path_same env other second b.1)
 
 -- what must be constant and has no offence has a value
-has_value : (env : List Scope) (p : Place) (e : Expression) → constant_offences env p e ≡ [] → constant_of e ≡ Undefined → ⊥
+pub has_value : (env : List Scope) (p : Place) (e : Expression) → constant_offences env p e ≡ [] → constant_of e ≡ Undefined → ⊥
 has_value env p e none h = pick (holds_path e) refl h
   where
     clean : holds_path e ≡ false → offences_in no_names e ≡ []
@@ -211,13 +212,13 @@ module _ (c : well.Scope) (all : List Site) (few_locals : length c.program.local
       } in
       ((o, there, value), setting_with wide all k.fns env x.name (local_entry i t n constant) (setting_more c (number_of i) all k.fns env unnamed) (object_fits wide k.fns target visible (λ e. absurd (cc))))
 
-locals_kept : (t : IntType) (constant : Bool) (ds : List Declarator) (k : Known) → IsPrefix k.locals (declarators_known t constant ds k).locals
+pub locals_kept : (t : IntType) (constant : Bool) (ds : List Declarator) (k : Known) → IsPrefix k.locals (declarators_known t constant ds k).locals
 locals_kept t constant [] k = λ i x h. h
 locals_kept t constant (d ∷ ds) k =
     let next = declarator_known t constant d k in
     prefix_then k.locals next.locals (declarators_known t constant ds next).locals (prefix_append k.locals (var_of t (declared_length d) constant (declared_name d) ∷ [])) (locals_kept t constant ds next)
 
-sites_kept : (t : IntType) (constant : Bool) (ds : List Declarator) (k : Known) → IsPrefix k.sites (declarators_known t constant ds k).sites
+pub sites_kept : (t : IntType) (constant : Bool) (ds : List Declarator) (k : Known) → IsPrefix k.sites (declarators_known t constant ds k).sites
 sites_kept t constant [] k = λ i x h. h
 sites_kept t constant (d ∷ ds) k =
     let next = declarator_known t constant d k in
@@ -227,8 +228,8 @@ pub declarators_fit : (c : well.Scope) (all : List Site) (k : Known) (t : IntTyp
     length c.program.locals < 2 ^ 32 → length all ≤ 2 ^ 32 →
     IsPrefix (declarators_known t constant ds k).locals c.program.locals → IsPrefix (declarators_known t constant ds k).sites all →
     declarators_offences t constant k ds ≡ [] → All DeclaratorBytes ds →
-    FitsList c (declarators_typed t constant k ds)
-    × IsSetting (behind_list c (declarators_typed t constant k ds)) all k.fns (declarators_known t constant ds k).scopes
+    FitsItems c (declarators_typed t constant k ds)
+    × IsSetting (behind_items c (declarators_typed t constant k ds)) all k.fns (declarators_known t constant ds k).scopes
 declarators_fit c all k t constant [] is s few_locals few locals sites none v = (tt, s)
 declarators_fit c all k t constant (d ∷ ds) is s few_locals few locals sites none v =
     let next = declarator_known t constant d k in

@@ -1,10 +1,17 @@
 -- When signatures agree with a program.
-use Rattle.std.specs.Prelude.{◌≡◌, ℕ, ◌+◌, ◌⊎◌, List, [], ◌∷◌, length, slice_get, true, IsTrue, Some, IsSome}
+use Rattle.std.specs.Prelude.{◌≡◌, ℕ, ◌+◌, ◌<◌, ◌≤◌, ◌^◌, ◌⊎◌, List, [], ◌∷◌, length, slice_get, true, All, IsTrue, IfSome, Option, None, Some, IsSome}
 use Rattle.c_tree.specs.declared.declarations.Declarator.{Declarator}
 use Rattle.c_tree.specs.declared.declarations.Declarator.TheVariants as declarator
 use Rattle.c_tree.specs.declared.declarations.Initializer.{Initializer}
 use Rattle.c_tree.specs.declared.declarations.Initializer.TheVariants as initializer
 use Rattle.c_tree.specs.declared.expressions.Expression.{Expression}
+use Rattle.c_tree.specs.declared.declarations.Local.{Local as ALocal}
+use Rattle.c_tree.specs.declared.statements.BlockItem.{BlockItem}
+use Rattle.c_tree.specs.declared.statements.BlockItem as block_item
+use Rattle.c_tree.specs.declared.statements.ForFirst.{ForFirst}
+use Rattle.c_tree.specs.declared.statements.ForFirst.TheVariants as for_first
+use Rattle.c_tree.specs.declared.statements.Statement.{Statement}
+use Rattle.c_tree.specs.declared.statements.Statement as statement
 use Rattle.joint_ir.specs.declared.ctype.IntType.{IntType}
 use Rattle.joint_ir.specs.declared.expr.Slot.TheVariants.{Local}
 use Rattle.joint_ir.specs.declared.program.CProgram.{CProgram}
@@ -12,7 +19,7 @@ use Rattle.joint_ir.specs.declared.program.Function.{Function}
 use Rattle.joint_ir.specs.declared.stmt.TStmt.{TStmt}
 use Rattle.joint_ir.specs.Types.{IsType}
 use Rattle.joint_ir.specs.WellFormed as well
-use Rattle.joint_ir.specs.WellFormed.{FitsStmt, declared_behind, is_bound, with_scope_locals}
+use Rattle.joint_ir.specs.WellFormed.{declared_behind, is_bound, with_scope_locals}
 use Rattle.joint_ir.specs.Steps.{slot_type}
 use Rattle.c_tree.specs.declared.statements.Simple.{Simple}
 use Rattle.c_tree.specs.declared.statements.Simple.TheVariants as simple
@@ -23,6 +30,8 @@ use Rattle.c_names.specs.Scope.{Scope, lookup}
 use Rattle.c_statements.specs.declared.calls.Callee.{Callee}
 use Rattle.c_statements.specs.declared.calls.Callee.TheVariants.{Unknown, NotFunction, SetInputs, NextFrame, Declared}
 use Rattle.c_statements.specs.declared.calls.Signature.{Signature}
+use Rattle.c_statements.specs.declared.walk.Around.{Around}
+use Rattle.c_statements.specs.Known.{Known}
 use Rattle.c_meaning.specs.Sound.{AreBytes, PathBytes, AreThere, AreProps}
 
 -- a function of the program has the result and the parameters of a signature, and may be called where the signature says so
@@ -89,12 +98,76 @@ DeclaratorBytes (declarator.InitializedArray x n es) = AllBytes es
 abbrev pub IsPrefix : {A : Type 0} → List A → List A → Type 0
 IsPrefix xs ys = (i : ℕ) (x : _) → slice_get xs i ≡ Some x → slice_get ys i ≡ Some x
 
--- each statement of a list fits where those before it have declared their objects
-abbrev pub FitsList : well.Scope → List TStmt → Type 0
-FitsList c [] = Unit {0}
-FitsList c (s ∷ ss) = FitsStmt c s.node × FitsList (with_scope_locals c (declared_behind s.node c.locals)) ss
-
 -- the scope behind the statements of a list
-abbrev pub behind_list : well.Scope → List TStmt → well.Scope
-behind_list c [] = c
-behind_list c (s ∷ ss) = behind_list (with_scope_locals c (declared_behind s.node c.locals)) ss
+abbrev pub behind_items : well.Scope → List TStmt → well.Scope
+behind_items c [] = c
+behind_items c (s ∷ ss) = behind_items (with_scope_locals c (declared_behind s.node c.locals)) ss
+
+-- what the tree of a statement has by its text: each character is a byte, and each group of a `switch` has a label
+abbrev pub OptionBytes : Option Expression → Type 0
+OptionBytes None = Unit {0}
+OptionBytes (Some e) = AreBytes e
+
+abbrev pub OptionInitBytes : Option Initializer → Type 0
+OptionInitBytes None = Unit {0}
+OptionInitBytes (Some i) = InitBytes i
+
+abbrev pub StepBytes : Option Simple → Type 0
+StepBytes None = Unit {0}
+StepBytes (Some s) = SimpleBytes s
+
+abbrev pub LocalBytes : ALocal → Type 0
+LocalBytes l = All DeclaratorBytes l.declarators
+
+abbrev pub FirstBytes : ForFirst → Type 0
+FirstBytes for_first.Nothing = Unit {0}
+FirstBytes (for_first.Local l) = LocalBytes l
+FirstBytes (for_first.Simple s) = SimpleBytes s
+
+abbrev mutual
+  pub StatementBytes : Statement → Type 0
+  StatementBytes (statement.Compound' p _ items) = RowBytes items
+  StatementBytes (statement.Empty p) = Unit {0}
+  StatementBytes (statement.Simple s) = SimpleBytes s
+  StatementBytes (statement.If' p c _ (statement.more_of-Statement s _)) = AreBytes c × StatementBytes s
+  StatementBytes (statement.IfElse' p c _ (statement.more_of-Statement s _) _ (statement.more_of-Statement t _)) = AreBytes c × StatementBytes s × StatementBytes t
+  StatementBytes (statement.While' p c _ (statement.more_of-Statement s _)) = AreBytes c × StatementBytes s
+  StatementBytes (statement.Do' p _ (statement.more_of-Statement s _) c) = AreBytes c × StatementBytes s
+  StatementBytes (statement.For' p first c step _ (statement.more_of-Statement s _)) = FirstBytes first × OptionBytes c × StepBytes step × StatementBytes s
+  StatementBytes (statement.Switch' p e _ groups) = AreBytes e × GroupsBytes groups
+  StatementBytes (statement.Break p) = Unit {0}
+  StatementBytes (statement.Continue p) = Unit {0}
+  StatementBytes (statement.Return p i) = OptionInitBytes i
+  StatementBytes (statement.Assert p e) = AreBytes e
+  StatementBytes (statement.CproverAssert p e) = AreBytes e
+  StatementBytes (statement.CproverAssume p e) = AreBytes e
+
+  pub GroupsBytes : {m : _} → statement.Row_of-Group m → Type 0
+  GroupsBytes statement.end_of-Group = Unit {0}
+  GroupsBytes (statement.more_of-Group p labels _ body row) = (0 < length labels) × StmtsBytes body × GroupsBytes row
+
+  pub StmtsBytes : {m : _} → statement.Row_of-Statement m → Type 0
+  StmtsBytes statement.end_of-Statement = Unit {0}
+  StmtsBytes (statement.more_of-Statement x row) = StatementBytes x × StmtsBytes row
+
+  pub ItemBytes : BlockItem → Type 0
+  ItemBytes (block_item.Local l) = LocalBytes l
+  ItemBytes (block_item.Statement s) = StatementBytes s
+
+  pub RowBytes : {m : _} → statement.Row_of-BlockItem m → Type 0
+  RowBytes statement.end_of-BlockItem = Unit {0}
+  RowBytes (statement.more_of-BlockItem x row) = ItemBytes x × RowBytes row
+
+-- where a statement stands: in a program, a scope and what is around it, with what is known before it
+pub record IsPlace (p : CProgram) (all : List Site) (c : well.Scope) (a : Around) (k : Known) : Type 0 where
+  pub program : c.program ≡ p
+  pub setting : IsSetting c all k.fns k.scopes
+  pub loops : a.in_loop ≡ c.in_loop
+  pub breaks : a.may_break ≡ c.may_break
+  pub function : (fn : Function) × (slice_get p.functions c.here ≡ Some fn) × (fn.result ≡ a.result)
+  pub result : IfSome a.result IsType
+
+-- places fit their numbers
+pub record AreFew (p : CProgram) (all : List Site) : Type 0 where
+  pub locals : length p.locals < 2 ^ 32
+  pub sites : length all ≤ 2 ^ 32

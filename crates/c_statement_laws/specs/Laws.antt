@@ -5,6 +5,8 @@ use Rattle.c_tree.specs.declared.declarations.Initializer.{Initializer}
 use Rattle.c_tree.specs.declared.declarations.Initializer.TheVariants as initializer
 use Rattle.c_tree.specs.declared.expressions.Call.{Call}
 use Rattle.c_tree.specs.declared.statements.Simple.{Simple}
+use Rattle.c_tree.specs.declared.statements.Statement.{Statement}
+use Rattle.joint_ir.specs.declared.program.CProgram.{CProgram}
 use Rattle.joint_ir.specs.declared.ctype.IntType.{IntType}
 use Rattle.joint_ir.specs.Types.{IsType}
 use Rattle.joint_ir.specs.WellFormed as well
@@ -16,9 +18,11 @@ use Rattle.c_meaning.specs.Sound.{AreThere, AreProps}
 use Rattle.c_statements.specs.declared.calls.Signature.{Signature}
 use Rattle.c_statements.specs.Calls.{callee, init_offences, init_sites, init_typed}
 use Rattle.c_statements.specs.Known.{Known}
-use Rattle.c_statements.specs.Statements.{declarators_known, declarators_offences, declarators_typed}
+use Rattle.c_statements.specs.declared.walk.Around.{Around}
+use Rattle.c_statements.specs.Statements.{declarators_known, declarators_offences, declarators_typed, known_after, offences_of, stmt_typed}
 use Rattle.c_statements.specs.Simple.{simple_offences, simple_sites, simple_typed}
-use Rattle.c_statement_laws.specs.Agreeing.{Agree, InitBytes, HasSignature, SimpleBytes, DeclaratorBytes, IsSetting, IsPrefix, FitsList, behind_list}
+use Rattle.joint_lists.specs.Lists.{FitsItems}
+use Rattle.c_statement_laws.specs.Agreeing.{Agree, InitBytes, HasSignature, SimpleBytes, DeclaratorBytes, IsSetting, IsPrefix, IsPlace, AreFew, StatementBytes, behind_items}
 
 -- what an object of a type is set to is well-formed, a call with its arguments too, where nothing in it is an offence
 abbrev pub InitializersFit : Type 0
@@ -43,5 +47,13 @@ DeclaratorsFit =
     length c.program.locals < 2 ^ 32 → length all ≤ 2 ^ 32 →
     IsPrefix (declarators_known t constant ds k).locals c.program.locals → IsPrefix (declarators_known t constant ds k).sites all →
     declarators_offences t constant k ds ≡ [] → All DeclaratorBytes ds →
-    FitsList c (declarators_typed t constant k ds)
-    × IsSetting (behind_list c (declarators_typed t constant k ds)) all k.fns (declarators_known t constant ds k).scopes
+    FitsItems c (declarators_typed t constant k ds)
+    × IsSetting (behind_items c (declarators_typed t constant k ds)) all k.fns (declarators_known t constant ds k).scopes
+
+-- a statement is well-formed where it stands, where nothing in it is an offence, and what it declares and the properties in it
+-- are those of the program
+abbrev pub StatementsFit : Type 0
+StatementsFit =
+    (p : CProgram) (all : List Site) → AreFew p all → (c : well.Scope) (a : Around) (k : Known) → IsPlace p all c a k → (s : Statement) →
+    IsPrefix (known_after s k).locals p.locals → IsPrefix (known_after s k).sites all →
+    offences_of a k s ≡ [] → StatementBytes s → FitsStmt c (stmt_typed a k s).node

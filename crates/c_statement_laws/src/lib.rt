@@ -3,7 +3,7 @@
 //! Nothing here does anything: each function is the statement of a law.
 #![tactic(auto)]
 
-ghost use Rattle.c_statement_laws.specs.Laws.{DeclaratorsFit, InitializersFit, SimplesFit};
+ghost use Rattle.c_statement_laws.specs.Laws.{DeclaratorsFit, InitializersFit, SimplesFit, StatementsFit};
 
 /// What an object is set to is well-formed, a call with its arguments too.
 pub fn initializers_fit()
@@ -18,4 +18,9 @@ pub fn simples_fit()
 /// What declarators declare is well-formed, and fits what stands behind them.
 pub fn declarators_fit()
     ensures { DeclaratorsFit }
+{}
+
+/// Every statement is well-formed where it stands: blocks, branches, loops and switches too.
+pub fn statements_fit()
+    ensures { StatementsFit }
 {}
