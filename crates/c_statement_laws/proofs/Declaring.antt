@@ -79,7 +79,7 @@ weaker c t (init.Values es) h = h
 weaker c t (init.Called call) h = h
 
 -- an array has an element
-some_length : (z : Constant) → (n : ℕ) × (array_length z ≡ suc n)
+pub some_length : (z : Constant) → (n : ℕ) × (array_length z ≡ suc n)
 some_length Never = (0, refl)
 some_length Undefined = (0, refl)
 some_length (Is (negsuc n)) = (0, refl)
@@ -136,7 +136,7 @@ no_excess [] h = refl
 no_excess (e ∷ es) h = absurd (cc)
 
 -- an array has at least as many elements as are given to it
-few_elements : (p : Place) (z : Constant) (es : List Expression) → (z ≡ Undefined → ⊥) → never_offences p z ≡ [] → range_offences p z ≡ [] → excess_offences z es ≡ [] → length es ≤ array_length z
+pub few_elements : (p : Place) (z : Constant) (es : List Expression) → (z ≡ Undefined → ⊥) → never_offences p z ≡ [] → range_offences p z ≡ [] → excess_offences z es ≡ [] → length es ≤ array_length z
 few_elements p Undefined es known never range none = absurd (known refl)
 few_elements p Never es known never range none = absurd (cc)
 few_elements p (Is m) es known never range none = pick (is_length m) range none
