@@ -10,4 +10,4 @@ pub mod number;
 pub mod target;
 
 pub use expression::flat_expr;
-pub use target::flat_target;
+pub use target::{flat_target, flat_which};

@@ -14,7 +14,7 @@ use v_tree::{Selection as SourceSelection, Target as SourceTarget};
 use v_views::{Selection, Target};
 
 /// Which bits of a signal are written.
-fn flat_which(
+pub fn flat_which(
     alloc: Global,
     names: &Names,
     turns: &[Turn],

@@ -8,6 +8,8 @@ use Rattle.elab_names.specs.declared.constant.Worth.{Worth}
 use Rattle.elab_names.specs.declared.constant.Worth.TheVariants.{Value, Open, NotConstant}
 use Rattle.elab_names.specs.declared.context.Context.{Context}
 use Rattle.elab_names.specs.declared.measure.Measured.{Measured}
+use Rattle.elab_names.specs.declared.names.Entry.{Entry}
+use Rattle.elab_names.specs.declared.names.Entry.TheVariants.{Integer}
 use Rattle.elab_names.specs.declared.names.Turn.{Turn}
 use Rattle.elab_names.specs.Constants.{context_of, is_true}
 use Rattle.elab_names.specs.Names.{Scope}
@@ -75,3 +77,11 @@ is_long values = nat_lt MOST_TURNS (length values)
 -- the turns that are unrolled: none of a loop that is too long
 abbrev pub turns_of : List Word → List Word
 turns_of values = if is_long values then [] else values
+
+abbrev pub taken_turns : Scope → List Turn → ℕ → ForHead → List Word
+taken_turns names turns integer head = turns_of (values_of names turns integer head)
+
+-- the number of a loop variable
+abbrev pub integer_number : Option Entry → ℕ
+integer_number (Some (Integer n)) = n
+integer_number e = 0

@@ -3,4 +3,4 @@
 
 pub mod loops;
 
-pub use loops::{is_long, turns_of, values_of, with_turn};
+pub use loops::{integer_number, is_long, taken_turns, turns_of, values_of, with_turn};

@@ -2,7 +2,7 @@
 
 ghost use Rattle.std.specs.Prelude.{◌≡◌, IfOk};
 ghost use Rattle.elab_names.specs.Constants.{IsContext};
-ghost use Rattle.elab_loops.specs.Loops.{cut_to_variable as cut_to_variable_of, variable_context as variable_context_of, stored as stored_of, assigned as assigned_of, with_turn as with_turn_of, is_true_worth as is_true_worth_of, head_holds, or_nought as or_nought_of, head_next, loop_values as loop_values_of, values_of as values_of_of, is_long as is_long_of, turns_of as turns_of_of};
+ghost use Rattle.elab_loops.specs.Loops.{cut_to_variable as cut_to_variable_of, variable_context as variable_context_of, stored as stored_of, assigned as assigned_of, with_turn as with_turn_of, is_true_worth as is_true_worth_of, head_holds, or_nought as or_nought_of, head_next, loop_values as loop_values_of, values_of as values_of_of, is_long as is_long_of, turns_of as turns_of_of, taken_turns as taken_turns_of, integer_number as integer_number_of};
 
 use bits_core::Word;
 use elab_names::constant::{Worth, context_of, is_true};
@@ -10,7 +10,7 @@ use elab_names::context::Context;
 use elab_names::measure::{
     Measured, constant_of, greater, length_of, measure, signed_of, worth_in,
 };
-use elab_names::names::Turn;
+use elab_names::names::{Entry, Turn};
 use elab_names::scope::Names;
 use sqlite_items::Items;
 use std::alloc::{AllocError, Global};
@@ -170,5 +170,29 @@ pub fn turns_of(alloc: Global, values: Items<Word>) -> Items<Word>
         Items::new(alloc)
     } else {
         values
+    }
+}
+
+/// The values of a loop's variable that are unrolled.
+pub fn taken_turns(
+    alloc: Global,
+    names: &Names,
+    turns: &[Turn],
+    integer: usize,
+    head: &ForHead,
+) -> Result<Items<Word>, AllocError>
+    ensures { IfOk result (λ l. l ≡ taken_turns_of names.now turns.now integer head.now) }
+{
+    let values = values_of(alloc, names, turns, integer, head)?;
+    Ok(turns_of(alloc, values))
+}
+
+/// The number of the loop variable that a name stands for.
+pub fn integer_number(entry: &Option<Entry>) -> usize
+    ensures { result ≡ integer_number_of entry.now }
+{
+    match entry {
+        Some(Entry::Integer(number)) => *number,
+        _ => 0,
     }
 }
