@@ -3,9 +3,9 @@
 #![tactic(auto)]
 
 mod asserts;
+mod idle;
 mod nest;
 mod parts;
-mod unused;
 
 ghost use Rattle.std.specs.Prelude.{◌<◌, ◌^◌, length};
 ghost use Rattle.joint_ir.specs.WellFormed.{IsWellFormed};
@@ -81,11 +81,12 @@ fn assert_row<R: Print + AllocGlobal>(rt: &R, activations: u32) -> Result<()> {
 }
 
 /// 200 arrays in a function that is never called, and 100 calls of an empty one.
-fn unused_row<R: Print + AllocGlobal>(rt: &R) -> Result<()> {
-    let pair = unused::unused(rt.alloc(), 200, 100)?;
+fn idle_row<R: Print + AllocGlobal>(rt: &R) -> Result<()> {
+    let pair = idle::idle(rt.alloc(), 200, 100)?;
     let bounds = bounds(rt.alloc(), 32)?;
     print!(rt; "200 arrays, 100 calls: ")?;
-    print_weight(rt, &pair, &bounds)
+    print_weight(rt, &pair, &bounds)?;
+    print_replay(rt, &pair, &bounds)
 }
 
 fn main(rt: HostRuntime) -> Result<()> {
@@ -99,5 +100,5 @@ fn main(rt: HostRuntime) -> Result<()> {
     nest_row(&rt, Shape::Call)?;
     assert_row(&rt, 1)?;
     assert_row(&rt, 32)?;
-    unused_row(&rt)
+    idle_row(&rt)
 }

@@ -1,0 +1,5 @@
+use Rattle.show_hostile.proofs.Idling.{copy_step}
+use Rattle.show_hostile.proofs.idle.calls.Goals as goal
+
+pub loop-k-preserved : goal.loop-k-preserved
+loop-k-preserved c = copy_step c.loop-k.k c.loop-k.invariant c.call.ensures c.in_ok-push.ensures.ok
