@@ -1,67 +1,99 @@
 //! Many assertions, and a function that calls itself twice.
 
-ghost use Rattle.std.specs.Prelude.{◌≤◌, length, IfOk};
+ghost use Rattle.std.specs.Prelude.{◌≡◌, ◌≤◌, ◌++◌, IfOk};
+ghost use Rattle.joint_ir.specs.declared.stmt.SNode.{Block};
+ghost use Rattle.joint_ir.specs.WellFormed.{IsWellFormed};
+ghost use Rattle.show_hostile.specs.Checks.{assertion_of, assertions, asserting_body, asserting_of, call_stmt, check_of, checks, twice_of};
+ghost use Rattle.show_hostile.specs.Nests.{f_of, main_of, properties_of, stmt_of};
 
 use crate::parts;
 use anyhow::Result;
-use joint_ir::{CProgram, Pair, PropId, PropKind, PropList, SNode, TStmt, TStmtList};
+use joint_ir::{
+    CProgram, Function, Pair, Prop, PropId, PropKind, PropList, SNode, TStmt, TStmtList,
+};
 use sqlite_items::{Boxed, Items};
+use src_text::Name;
 use std::alloc::Global;
 
-/// The properties of both functions, and so many assertions.
+/// The property of an assertion of `main`.
+fn check(alloc: Global, number: u32) -> Result<Prop>
+    ensures { IfOk result (λ prop. prop ≡ check_of number) }
+{
+    Ok(Prop {
+        function: Name::new(alloc, "main")?,
+        kind: PropKind::Assertion,
+        number,
+        line: 1,
+    })
+}
+
+/// The properties of both functions, and those of so many assertions.
 fn properties(alloc: Global, count: u32) -> Result<PropList>
     requires { count ≤ 1000000 }
-    ensures { IfOk result (λ props. length props ≤ 1000002) }
+    ensures { IfOk result (λ props. props ≡ properties_of ++ checks 1 count) }
 {
-    let main = parts::property(alloc, "main", PropKind::Recursion)?;
-    let f = parts::property(alloc, "f", PropKind::Recursion)?;
-    let mut props = parts::two(alloc, main, f)?;
+    let mut props = parts::properties(alloc)?;
     for k in 0..count {
-        let mut property = parts::property(alloc, "main", PropKind::Assertion)?;
-        property.number = k + 1;
-        props.push(property)?;
+        props.push(check(alloc, k + 1)?)?;
     }
     Ok(props)
 }
 
 /// `assert(1);`
-fn assertion(alloc: Global, property: u32) -> Result<TStmt> {
+fn assertion(alloc: Global, property: u32) -> Result<TStmt>
+    ensures { IfOk result (λ s. s ≡ assertion_of property) }
+{
     let one = Boxed::new(alloc, parts::number())?;
     Ok(parts::stmt(SNode::Assert(one, PropId(property))))
 }
 
-/// `f(1);`
-fn call(alloc: Global) -> Result<TStmt> {
-    Ok(parts::stmt(SNode::Call(parts::call_f(alloc, parts::number())?)))
-}
-
-/// So many assertions, and `f(1);`.
-fn main_body(alloc: Global, count: u32) -> Result<TStmt>
+/// So many assertions.
+fn all_assertions(alloc: Global, count: u32) -> Result<TStmtList>
     requires { count ≤ 1000000 }
+    ensures { IfOk result (λ items. items ≡ assertions 3 count) }
 {
     let mut items: TStmtList = Items::new(alloc);
     for k in 0..count {
-        items.push(assertion(alloc, k + 2)?)?;
+        items.push(assertion(alloc, k + 3)?)?;
     }
-    items.push(call(alloc)?)?;
-    Ok(parts::stmt(SNode::Block(items)))
+    Ok(items)
 }
 
-/// `{ f(1); f(1); }`
-fn twice(alloc: Global) -> Result<TStmt> {
+/// `f(1);`
+fn call(alloc: Global) -> Result<TStmt>
+    ensures { IfOk result (λ s. s ≡ call_stmt) }
+{
+    let call = parts::call_f(alloc, parts::number())?;
+    Ok(parts::stmt(SNode::Call(call)))
+}
+
+/// `main`, with so many assertions and `f(1);`.
+fn checking(alloc: Global, count: u32) -> Result<Function>
+    requires { count ≤ 1000000 }
+    ensures { IfOk result (λ fn. fn ≡ main_of (stmt_of (Block (asserting_body count)))) }
+{
+    let mut items = all_assertions(alloc, count)?;
+    items.push(call(alloc)?)?;
+    parts::main_function(alloc, parts::stmt(SNode::Block(items)))
+}
+
+/// `int f(int x) { f(1); f(1); }`
+fn twice(alloc: Global) -> Result<Function>
+    ensures { IfOk result (λ fn. fn ≡ f_of twice_of) }
+{
     let first = call(alloc)?;
     let second = call(alloc)?;
-    Ok(parts::stmt(SNode::Block(parts::two(alloc, first, second)?)))
+    let items = parts::two(alloc, first, second)?;
+    parts::f_function(alloc, parts::stmt(SNode::Block(items)))
 }
 
 fn program(alloc: Global, count: u32) -> Result<CProgram>
     requires { count ≤ 1000000 }
-    ensures { IfOk result (λ p. length p.props ≤ 1000002) }
+    ensures { IfOk result (λ p. p ≡ asserting_of count) }
 {
-    let main = parts::main_function(alloc, main_body(alloc, count)?)?;
-    let f = parts::f_function(alloc, twice(alloc)?)?;
+    let main = checking(alloc, count)?;
     Ok(CProgram {
-        functions: parts::two(alloc, main, f)?,
+        functions: parts::two(alloc, main, twice(alloc)?)?,
         globals: Items::new(alloc),
         locals: parts::one(alloc, parts::int_var(alloc, "x", 0)?)?,
         mirror: None,
@@ -73,8 +105,8 @@ fn program(alloc: Global, count: u32) -> Result<CProgram>
 /// `int main(void) { assert(1); .. f(1); }` with so many assertions, and `int f(int x) { f(1); f(1); }`.
 pub fn asserting(alloc: Global, count: u32) -> Result<Pair>
     requires { count ≤ 1000000 }
-    ensures { IfOk result (λ p. length p.program.props ≤ 1000002) }
+    ensures { IfOk result IsWellFormed }
 {
     let program = program(alloc, count)?;
-    parts::beside_nothing(alloc, program)
+    Ok(parts::beside_nothing(alloc, program)?)
 }

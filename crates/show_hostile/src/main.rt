@@ -77,7 +77,8 @@ fn assert_row<R: Print + AllocGlobal>(rt: &R, activations: u32) -> Result<()> {
     let pair = asserts::asserting(rt.alloc(), 20000)?;
     let bounds = bounds(rt.alloc(), activations)?;
     print!(rt; "20000 assertions, {activations} activations: ")?;
-    print_weight(rt, &pair, &bounds)
+    print_weight(rt, &pair, &bounds)?;
+    print_replay(rt, &pair, &bounds)
 }
 
 /// 200 arrays in a function that is never called, and 100 calls of an empty one.

@@ -147,7 +147,7 @@ pub fn int_var(alloc: Global, name: &str, length: u32) -> Result<Var>
 }
 
 /// One for the recursion of `main`, one for that of `f`, and one for all loops of `f`.
-fn properties(alloc: Global) -> Result<Items<Prop>>
+pub fn properties(alloc: Global) -> Result<Items<Prop>>
     ensures { IfOk result (λ ps. ps ≡ properties_of) }
 {
     let main = property(alloc, "main", PropKind::Recursion)?;
