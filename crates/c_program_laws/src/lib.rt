@@ -3,9 +3,14 @@
 //! Nothing here does anything: each function is the statement of a law.
 #![tactic(auto)]
 
-ghost use Rattle.c_program_laws.specs.Laws.{ObjectsFit};
+ghost use Rattle.c_program_laws.specs.Laws.{BodiesFit, ObjectsFit};
 
 /// The objects of file scope that a declaration declares are well-formed.
 pub fn objects_fit()
     ensures { ObjectsFit }
+{}
+
+/// The body of a function is well-formed where its parameters are declared.
+pub fn bodies_fit()
+    ensures { BodiesFit }
 {}

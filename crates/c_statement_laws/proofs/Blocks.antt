@@ -26,7 +26,7 @@ use Rattle.c_expressions.specs.Expressions.{sites_in}
 use Rattle.c_statements.specs.Arrays.{declared_length}
 use Rattle.c_statements.specs.Known.{Known, enter, leave_scope, more}
 use Rattle.c_statements.specs.Simple.{simple_sites}
-use Rattle.c_statements.specs.Statements.{is_some, declared_name, pending, local_entry, option_init_sites, declarator_known, declarators_known, first_known, site_at, own, after_expression, condition_sites, step_sites, at_condition, at_step, at_body, known_after, known_after_item, known_after_row, known_after_groups, known_after_stmts}
+use Rattle.c_statements.specs.Statements.{is_some, declared_name, pending, local_entry, option_init_sites, declarator_known, declarators_known, first_known, site_at, own, after_expression, condition_sites, step_sites, at_condition, at_step, at_body, known_after, known_after_item, known_after_row, known_after_groups, known_after_stmts, items_known}
 use Rattle.c_statement_laws.specs.Agreeing.{IsPrefix, behind_items}
 use Rattle.c_statement_laws.proofs.Declaring.{prefix_then, prefix_append, locals_kept, sites_kept}
 
@@ -136,6 +136,12 @@ mutual
   grows_row (statement.more_of-BlockItem x row) k =
       let next = known_after_item x k in
       grows_then k next (known_after_row row next) (grows_item x k) (grows_row row next)
+
+pub grows_items : (xs : List BlockItem) (k : Known) → Grows k (items_known xs k)
+grows_items [] k = grows_none k
+grows_items (x ∷ xs) k =
+    let next = known_after_item x k in
+    grows_then k next (items_known xs next) (grows_item x k) (grows_items xs next)
 
 -- a declaration leaves the outer scopes as they were
 leave_declare : (env : List Scope) (n : List ℕ) (e : Entry) → leave (declare env n e) ≡ leave env

@@ -55,11 +55,11 @@ prefix_append [] ys i x h = absurd (cc)
 prefix_append (z ∷ xs) ys zero x h = h
 prefix_append (z ∷ xs) ys (suc i) x h = prefix_append xs ys i x h
 
-get_end : {A : Type 0} (xs : List A) (x : A) (ys : List A) → slice_get (xs ++ x ∷ ys) (length xs) ≡ Some x
+pub get_end : {A : Type 0} (xs : List A) (x : A) (ys : List A) → slice_get (xs ++ x ∷ ys) (length xs) ≡ Some x
 get_end [] x ys = refl
 get_end (z ∷ xs) x ys = get_end xs x ys
 
-length_end : {A : Type 0} (xs : List A) (x : A) → length (xs ++ x ∷ []) ≡ length xs + 1
+pub length_end : {A : Type 0} (xs : List A) (x : A) → length (xs ++ x ∷ []) ≡ length xs + 1
 length_end [] x = refl
 length_end (z ∷ xs) x = ap suc (length_end xs x) ∙ (let e : suc (length xs + 1) ≡ suc (length xs) + 1 = omega arith in e)
 

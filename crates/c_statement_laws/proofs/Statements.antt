@@ -1,9 +1,9 @@
 -- Statements are well-formed where nothing in them is an offence.
 use Rattle.std.proofs.Common.{◌≡◌, ℕ, ◌+◌, ◌<◌, List, [], ◌∷◌, ◌++◌, length, Bool, true, false, refl, sym, ap, subst, ◌∙◌}
-use Rattle.std.specs.Prelude.{IfSome, IsTrue, Option, Some, None, cond, slice_get}
+use Rattle.std.specs.Prelude.{All, IfSome, IsTrue, Option, Some, None, cond, slice_get}
 use denote.Hole.Carrier.{hidden}
 use Rattle.std.proofs.lemmas.List.{append_assoc}
-use Rattle.std.proofs.lemmas.List.Elements.{All-nil}
+use Rattle.std.proofs.lemmas.List.Elements.{All-head, All-nil, All-tail}
 use Rattle.src_text.specs.declared.refusal.Place.{Place}
 use Rattle.c_tree.specs.declared.declarations.Declarator.{Declarator}
 use Rattle.c_tree.specs.declared.declarations.Initializer.{Initializer}
@@ -24,6 +24,7 @@ use Rattle.joint_ir.specs.declared.expr.TExpr.{TExpr}
 use Rattle.joint_ir.specs.declared.program.CProgram.{CProgram}
 use Rattle.joint_ir.specs.declared.program.PropKind.{PropKind}
 use Rattle.joint_ir.specs.declared.program.PropKind.TheVariants as kind
+use Rattle.joint_ir.specs.declared.stmt.SNode.{Block}
 use Rattle.joint_ir.specs.declared.stmt.SNode.TheBlock.{hidden-the_row-TStmt-0}
 use Rattle.joint_ir.specs.declared.stmt.TStmt.{TStmt}
 use Rattle.joint_ir.specs.Types.{IsType}
@@ -42,7 +43,7 @@ use Rattle.c_statements.specs.Calls.{callee, call_args, args_sites, init_typed, 
 use Rattle.c_statements.specs.Known.{Known, enter, more}
 use Rattle.c_statements.specs.Simple.{call_node, simple_offences, simple_sites}
 use Rattle.c_statements.specs.Switches.{labels_typed, labels_offences}
-use Rattle.c_statements.specs.Statements.{is_some, option_init_sites, option_init_offences, declarator_known, declarators_typed, local_typed, local_known, local_offences, first_known, first_offences, first_typed, simple_stmt, condition_offences, condition_sites, condition_typed, step_offences, step_sites, step_typed, wrong_return, return_offences, return_typed, jump_offences, site_at, own, after_expression, id_of, in_a_loop, in_a_switch, at_condition, at_step, at_body, known_after, known_after_item, known_after_row, known_after_groups, known_after_stmts, offences_of, item_offences, row_offences, groups_offences, stmts_offences, stmt_typed, item_typed, row_typed, stmts_typed}
+use Rattle.c_statements.specs.Statements.{is_some, option_init_sites, option_init_offences, declarator_known, declarators_typed, local_typed, local_known, local_offences, first_known, first_offences, first_typed, simple_stmt, condition_offences, condition_sites, condition_typed, step_offences, step_sites, step_typed, wrong_return, return_offences, return_typed, jump_offences, site_at, own, after_expression, id_of, in_a_loop, in_a_switch, at_condition, at_step, at_body, known_after, known_after_item, known_after_row, known_after_groups, known_after_stmts, offences_of, item_offences, row_offences, groups_offences, stmts_offences, stmt_typed, item_typed, row_typed, stmts_typed, items_known, items_offences, items_typed}
 use Rattle.c_meaning.specs.Sound.{AreBytes}
 use Rattle.c_meaning.proofs.Fits.{converted_fits, expression_fits, promoted_is, there, type_is, named_is}
 use Rattle.c_statement_laws.specs.Agreeing.{IsSetting, IsPlace, AreFew, IsPrefix, behind_items, StatementBytes, GroupsBytes, StmtsBytes, ItemBytes, RowBytes, FirstBytes, OptionBytes, OptionInitBytes, StepBytes, SimpleBytes}
@@ -50,7 +51,7 @@ use Rattle.c_statement_laws.proofs.Inits.{none_left, none_right, init_fits}
 use Rattle.c_statement_laws.proofs.Simples.{has_signature, simple_fits}
 use Rattle.c_statement_laws.proofs.Declaring.{prefix_then, stand_behind, declarators_fit}
 use Rattle.c_statement_laws.proofs.Labels.{append_none, labels_fit}
-use Rattle.c_statement_laws.proofs.Blocks.{Grows, grows_more, grows_first, grows_statement, grows_groups, grows_stmts, grows_item, grows_row, same_scopes, stmts_scopes, behind_program, behind_here, behind_loop, behind_break, items_append}
+use Rattle.c_statement_laws.proofs.Blocks.{Grows, grows_more, grows_first, grows_statement, grows_groups, grows_stmts, grows_item, grows_items, grows_row, same_scopes, stmts_scopes, behind_program, behind_here, behind_loop, behind_break, items_append}
 use Rattle.c_statement_laws.proofs.Parts.{StepFits, GroupsOk, labels_in, block_fits, if_fits, while_fits, do_fits, for_fits, switch_fits}
 
 -- no statement but a declaration declares
@@ -377,6 +378,20 @@ module _ (p : CProgram) (all : List Site) (few : AreFew p all) where
         let made = items_fit c a k pl x (before next (known_after_row row next) (grows_row row next) w) (none_left (item_offences a k x) (row_offences a next row) none) v.0 in
         items_append c (item_typed a k x) (row_typed a next row) made.0
         (rows_fit (behind_items c (item_typed a k x)) a next made.1 row w (none_right (item_offences a k x) (row_offences a next row) none) v.1)
+
+  -- the items of a function's body
+  body_items : (c : well.Scope) (a : Around) (k : Known) → IsPlace p all c a k → (xs : List BlockItem) → Within (items_known xs k) → items_offences a k xs ≡ [] → All ItemBytes xs →
+      FitsItems c (items_typed a k xs)
+  body_items c a k pl [] w none v = tt
+  body_items c a k pl (x ∷ xs) w none v =
+      let next = known_after_item x k in
+      let made = items_fit c a k pl x (before next (items_known xs next) (grows_items xs next) w) (none_left (item_offences a k x) (items_offences a next xs) none) (All-head ItemBytes x xs v) in
+      items_append c (item_typed a k x) (items_typed a next xs) made.0
+      (body_items (behind_items c (item_typed a k x)) a next made.1 xs w (none_right (item_offences a k x) (items_offences a next xs) none) (All-tail ItemBytes x xs v))
+
+pub body_fits : (p : CProgram) (all : List Site) → AreFew p all → (c : well.Scope) (a : Around) (k : Known) → IsPlace p all c a k → (xs : List BlockItem) → IsPrefix (items_known xs k).locals p.locals →
+    IsPrefix (items_known xs k).sites all → items_offences a k xs ≡ [] → All ItemBytes xs → FitsStmt c (Block (items_typed a k xs))
+body_fits p all few c a k pl xs locals sites none v = block_fits c (items_typed a k xs) (body_items p all few c a k pl xs (record { locals = locals; sites = sites }) none v)
 
 pub statement_fits : (p : CProgram) (all : List Site) → AreFew p all → (c : well.Scope) (a : Around) (k : Known) → IsPlace p all c a k → (s : Statement) → IsPrefix (known_after s k).locals p.locals →
     IsPrefix (known_after s k).sites all → offences_of a k s ≡ [] → StatementBytes s → FitsStmt c (stmt_typed a k s).node
