@@ -3,11 +3,14 @@
 //! has to be printed was worked out by hand from the rules.
 #![tactic(auto)]
 
+ghost use Rattle.std.specs.Prelude.{◌^◌, ◌<◌, length};
+
 mod expressions;
 mod program;
 mod statements;
 
 use c_parse::{ParseEnd, parse_c};
+use c_tree::CTree;
 use c_types::{TypeEnd, typed};
 use io_edge::{RealFiles, read_all};
 use joint_ir::CProgram;
@@ -19,28 +22,43 @@ use std::{env, io, str};
 /// What comes before the name of a text.
 const MARK: &str = "//// ";
 
-/// The typed program of a text, or its first offence.
-fn typed_text(alloc: Global, text: &str) -> Result<Result<CProgram, Refusal>, AllocError> {
-    let tree = match parse_c(alloc, text.as_bytes()) {
-        Ok(tree) => tree,
-        Err(ParseEnd::Refused(refusal)) => return Ok(Err(refusal)),
-        Err(ParseEnd::Memory) => return Err(AllocError),
-    };
-    match typed(alloc, &tree) {
-        Ok(program) => Ok(Ok(program)),
-        Err(TypeEnd::Refused(refusal)) => Ok(Err(refusal)),
+/// What typing gives for a text.
+#[derive(Drop)]
+enum Answer {
+    Typed(CProgram),
+    Refused(Refusal),
+    /// A text of 2^30 bytes or more isn't read.
+    TooLong,
+}
+
+fn typed_tree(alloc: Global, tree: &CTree) -> Result<Answer, AllocError> {
+    match typed(alloc, tree) {
+        Ok(program) => Ok(Answer::Typed(program)),
+        Err(TypeEnd::Refused(refusal)) => Ok(Answer::Refused(refusal)),
         Err(TypeEnd::Memory) => Err(AllocError),
+    }
+}
+
+fn typed_text(alloc: Global, text: &[u8]) -> Result<Answer, AllocError> {
+    if text.len() >= 1 << 30 {
+        return Ok(Answer::TooLong);
+    }
+    match parse_c(alloc, text) {
+        Ok(tree) => typed_tree(alloc, &tree),
+        Err(ParseEnd::Refused(refusal)) => Ok(Answer::Refused(refusal)),
+        Err(ParseEnd::Memory) => Err(AllocError),
     }
 }
 
 fn print_text<R: Print + AllocGlobal>(rt: &R, name: &str, text: &str) -> io::Result<()> {
     println!(rt; "{name}")?;
-    match typed_text(rt.alloc(), text)? {
-        Err(Refusal { place, kind, .. }) => {
+    match typed_text(rt.alloc(), text.as_bytes())? {
+        Answer::Refused(Refusal { place, kind, .. }) => {
             println!(rt; "  {}:{} {}", place.line, place.column, kind.text())
         }
-        Ok(program) if name.starts_with("program") => print_program(rt, &program),
-        Ok(_) => println!(rt; "  typed"),
+        Answer::Typed(program) if name.starts_with("program") => print_program(rt, &program),
+        Answer::Typed(_) => println!(rt; "  typed"),
+        Answer::TooLong => println!(rt; "  too long"),
     }
 }
 
