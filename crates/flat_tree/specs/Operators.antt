@@ -71,19 +71,22 @@ truth n = nat_lt 0 n
 abbrev pub turned : ℕ → ℕ
 turned n = 1 - n
 
--- the relation, quotient, remainder and arithmetic shift of numbers of w bits: signed, or not (5.1.5, 5.1.7, 5.1.12)
+-- whether a number of w bits is less than another, both signed or neither: 1 or 0 (5.1.7)
 abbrev pub less : Bool → ℕ → ℕ → ℕ → ℕ
 less true w a b = value2 two.LtS w a b
 less false w a b = value2 two.LtU w a b
 
+-- the quotient, cut towards zero where the numbers are signed (5.1.5)
 abbrev pub quotient : Bool → ℕ → ℕ → ℕ → ℕ
 quotient true w a b = value2 two.DivS w a b
 quotient false w a b = value2 two.DivU w a b
 
+-- the remainder, with the sign of the first operand (5.1.5)
 abbrev pub remainder : Bool → ℕ → ℕ → ℕ → ℕ
 remainder true w a b = value2 two.RemS w a b
 remainder false w a b = value2 two.RemU w a b
 
+-- a shift to the right, that keeps the sign where the number is signed (5.1.12)
 abbrev pub shifted_right : Bool → ℕ → ℕ → ℕ → ℕ
 shifted_right true w a b = value2 two.ShrS w a b
 shifted_right false w a b = value2 two.ShrU w a b

@@ -37,6 +37,7 @@ site_at place w =
     then (record { place = place; bits = 64 }) ∷ (record { place = place; bits = w - 64 }) ∷ []
     else (record { place = place; bits = w }) ∷ []
 
+-- how many numbers a site of so many bits takes
 abbrev pub numbers_of : ℕ → ℕ
 numbers_of w = if nat_lt 64 w then 2 else 1
 
@@ -54,6 +55,7 @@ pub record Meant : Type 0 where
   pub fixed : ℕ → Bool → Bool
   pub value : World → ℕ → Bool → ℕ → ℕ
 
+-- how many numbers the sites of an expression take, at a width
 abbrev pub count : Meant → ℕ → ℕ
 count m w = length (m.sites w)
 
@@ -61,12 +63,15 @@ count m w = length (m.sites w)
 abbrev pub own_sites : Meant → List PlacedSite
 own_sites m = m.sites m.length
 
+-- and how many at its own length
 abbrev pub own_count : Meant → ℕ
 own_count m = length (own_sites m)
 
+-- whether it is constant, at its own length and sign
 abbrev pub own_fixed : Meant → Bool
 own_fixed m = m.fixed m.length m.signed
 
+-- its value at its own length and sign, its sites' numbers from one on (5.4, 5.5)
 abbrev pub own_value : Meant → World → ℕ → ℕ
 own_value m x k = m.value x m.length m.signed k
 
@@ -81,6 +86,7 @@ standing l s sites fixed v = record {
   value = λ x w t k. resized w t l (v x k);
 }
 
+-- a literal of a length, a sign and a number (3.5.1)
 abbrev pub literal : ℕ → Bool → ℕ → Meant
 literal l s n = standing l s [] true (λ x k. n)
 
@@ -129,6 +135,7 @@ shifted f a b = record {
   value = λ x w s k. f w s (a.value x w s k) (own_value b x (k + count a w));
 }
 
+-- a binary operator, by what its form does with the width and the sign of its operands (5.4.1, 5.5.2)
 abbrev pub binary_by : Form → Place → (ℕ → Bool → ℕ → ℕ → ℕ) → Meant → Meant → Meant
 binary_by InContext place f a b = both_at f a b
 binary_by Dividing place f a b = divided_at place f a b
@@ -136,6 +143,7 @@ binary_by Comparing place f a b = compared f a b
 binary_by Logical place f a b = joined_by (f 1 false) 1 a b
 binary_by Shifting place f a b = shifted f a b
 
+-- a binary operator between two operands
 abbrev pub binary_meant : Place → BinaryOp → Meant → Meant → Meant
 binary_meant place op a b = binary_by (form_of op) place (binary_value op) a b
 
@@ -147,6 +155,7 @@ kept_by f a = record { length = a.length; signed = a.signed; sites = a.sites; fi
 abbrev pub reduced_by : (ℕ → ℕ → ℕ) → Meant → Meant
 reduced_by f a = standing 1 false (own_sites a) (own_fixed a) (λ x k. f a.length (own_value a x k))
 
+-- a unary operator: a reduction, or one that keeps its operand's width (5.1.10, 5.1.11)
 abbrev pub unary_meant : UnaryOp → Meant → Meant
 unary_meant op a = if is_reduction op then reduced_by (unary_value op) a else kept_by (unary_value op) a
 
@@ -166,6 +175,7 @@ conditional c a b = record {
 abbrev pub beside : Meant → Meant → Meant
 beside a b = joined_by (λ m n. m * 2 ^ b.length + n) (a.length + b.length) a b
 
+-- an expression of no bits, by which concatenations begin
 abbrev pub nothing : Meant
 nothing = literal 0 false 0
 
@@ -197,6 +207,7 @@ abbrev pub bits_by : Place → ℕ → ℕ → ℕ → Bool → (World → ℕ) 
 bits_by place n w lowest fixed word i =
     indexed (is_sure (λ at. are_inside n w (at -ℤ pos lowest)) i) place n false fixed i (λ x at site. bits_read n w (word x) site (at -ℤ pos lowest))
 
+-- a word of a memory by its index (4.9, 5.2.2)
 abbrev pub word_by : Place → Shape → ℕ → Meant → Meant
 word_by place s g i = indexed (is_sure (is_word s.words) i) place s.bits s.signed false i (λ x at site. word_read (x.word g) s.words site at)
 
