@@ -20,6 +20,7 @@ use Rattle.bitblast.specs.Blasted.{AreFreeBits, free_edges, inputs, inputs_from}
 use Rattle.word_eqs.specs.Assignments.{IsAssignment}
 use Rattle.bitblast.specs.declared.blasting.Maker.{Maker}
 
+-- there are no edges
 abbrev pub has_none : List Edge → Bool
 has_none [] = true
 has_none (e ∷ es) = false
@@ -107,6 +108,7 @@ abbrev pub is_live : Walk → Bool
 is_live (Passes r) = true
 is_live (Stops r e) = false
 
+-- the walk stopped at a property, not at an assumption that cuts it
 abbrev pub is_at_prop : Stop → Bool
 is_at_prop AtCut = false
 is_at_prop (AtProp p) = true

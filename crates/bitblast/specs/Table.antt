@@ -9,6 +9,7 @@ use Rattle.bitblast.specs.declared.edge_table.Span.{Span}
 abbrev pub word_at : List Edge → Span → ArrayVec Edge
 word_at edges span = record { items = slice_range edges span.start (span.start + span.width) }
 
+-- the edges at each span, in order
 abbrev pub words_at : List Edge → List Span → List (ArrayVec Edge)
 words_at edges spans = map (word_at edges) spans
 

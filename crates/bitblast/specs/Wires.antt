@@ -17,6 +17,7 @@ use Rattle.bitblast.specs.Circuit.{AreBelow, Grows, number_of}
 abbrev pub edges_at : List (ArrayVec Edge) → ℕ → List Edge
 edges_at wires k = (slice_index_or wires k (record { items = [] })).items
 
+-- the word at a place was made: it has some edge
 abbrev pub IsMade : List (ArrayVec Edge) → ℕ → Type 0
 IsMade wires k = 0 < length (edges_at wires k)
 

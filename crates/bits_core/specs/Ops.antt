@@ -14,12 +14,16 @@ quotient s w x y = at_zero y 0 (modulo w (int_div (number s w x) (number s w y))
 abbrev pub remainder : Bool → ℕ → ℕ → ℕ → ℕ
 remainder s w x y = at_zero y 0 (modulo w (int_rem (number s w x) (number s w y)))
 
+-- whether the first word is the smaller, both read as signed or as unsigned numbers
 abbrev pub less : Bool → ℕ → ℕ → ℕ → Bool
 less s w x y = int_lt (number s w x) (number s w y)
 
+-- a word divided by 2^y and rounded down: what comes in from the left is the sign of a signed word, and zeros else
 abbrev pub shifted_right : Bool → ℕ → ℕ → ℕ → ℕ
 shifted_right s w x y = modulo w (floor_div (number s w x) (2 ^ y))
 
+-- What an operation on one word of w bits gives: each bit flipped, the negative modulo 2^w, or one bit that says
+-- whether all bits are 1, some bit is 1, or an odd number of bits is 1.
 abbrev pub value1 : Op1 → ℕ → ℕ → ℕ
 value1 Not w x = 2 ^ w - 1 - x
 value1 Neg w x = modulo w (neg_ℤ (pos x))
@@ -27,6 +31,8 @@ value1 RedAnd w x = bit (nat_eq x (2 ^ w - 1))
 value1 RedOr w x = bit (nat_lt 0 x)
 value1 RedXor w x = bit (nat_eq (count_ones x % 2) 1)
 
+-- What an operation on two words of w bits gives: sums, products and shifts are cut to w bits, and comparisons give 1
+-- or 0. The second operand of a shift is read as an unsigned number, however great.
 abbrev pub value2 : Op2 → ℕ → ℕ → ℕ → ℕ
 value2 And w x y = bit_and x y
 value2 Or w x y = bit_or x y
@@ -45,6 +51,7 @@ value2 Eq w x y = bit (nat_eq x y)
 value2 LtU w x y = bit (less false w x y)
 value2 LtS w x y = bit (less true w x y)
 
+-- the width of what an operation on one word of w bits gives
 abbrev pub width1 : Op1 → ℕ → ℕ
 width1 Not w = w
 width1 Neg w = w
@@ -52,6 +59,7 @@ width1 RedAnd w = 1
 width1 RedOr w = 1
 width1 RedXor w = 1
 
+-- the width of what an operation on two words of w bits gives: one bit for a comparison
 abbrev pub width2 : Op2 → ℕ → ℕ
 width2 And w = w
 width2 Or w = w
@@ -74,5 +82,6 @@ width2 LtS w = 1
 abbrev pub word1 : Op1 → Word → Word
 word1 op a = word (width1 op a.width) (value1 op a.width a.value)
 
+-- what an operation on two words gives, as a word; both are taken at the width of the first
 abbrev pub word2 : Op2 → Word → Word → Word
 word2 op a b = word (width2 op a.width) (value2 op a.width a.value b.value)

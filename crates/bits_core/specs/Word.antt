@@ -6,9 +6,11 @@ pub record Word : Type 0 where
   pub width : ℕ
   pub value : ℕ
 
+-- the word of a width with a value
 abbrev pub word : ℕ → ℕ → Word
 word w n = record { width = w; value = n }
 
+-- a word has from 1 to 128 bits
 abbrev pub IsWidth : ℕ → Type 0
 IsWidth w = (0 < w) × (w ≤ 128)
 
@@ -45,6 +47,7 @@ abbrev pub floor_div : ℤ → ℕ → ℤ
 floor_div (pos n) d = pos (n / d)
 floor_div (negsuc n) d = negsuc (n / d)
 
+-- 1 for true and 0 for false
 abbrev pub bit : Bool → ℕ
 bit true = 1
 bit false = 0
@@ -54,6 +57,7 @@ abbrev pub at_zero : {A : Type 0} → ℕ → A → A → A
 at_zero zero x y = x
 at_zero (suc n) x y = y
 
+-- whether a whole number is negative
 abbrev pub below_zero : ℤ → Bool
 below_zero (pos n) = false
 below_zero (negsuc n) = true

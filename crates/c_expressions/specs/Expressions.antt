@@ -42,10 +42,12 @@ value_offences p Unknown = at p CUnknownName
 value_offences p Other = at p CNotInteger
 value_offences p (Integer o) = []
 
+-- a constant that no type of its list can hold is an offence (C99 6.4.4.1p5, 6.4.4p2)
 abbrev pub literal_offences : Place → Option IntType → List Offence
 literal_offences p None = at p CLiteral
 literal_offences p (Some t) = []
 
+-- the type that was found, or `int` where an offence was told already
 abbrev pub type_or_int : Option IntType → IntType
 type_or_int None = int
 type_or_int (Some t) = t
@@ -57,6 +59,7 @@ operand_type unary.Minus t = promoted t
 operand_type unary.Flip t = promoted t
 operand_type unary.Not t = t
 
+-- the type of the result: the promoted type, and `int` for `!` (C99 6.5.3.3)
 abbrev pub unary_type : UnaryOp → IntType → IntType
 unary_type unary.Plus t = promoted t
 unary_type unary.Minus t = promoted t
@@ -70,12 +73,16 @@ left_type (meaning.Arithmetic op) t u = common t u
 left_type (meaning.Comparison op) t u = common t u
 left_type (meaning.Shift op) t u = promoted t
 
+-- the type that the right operand is converted to: the common type, or its own promoted type for a shift (C99
+-- 6.3.1.8, 6.5.7p3)
 abbrev pub right_type : Meaning → (t u : IntType) → IntType
 right_type (meaning.Logic op) t u = u
 right_type (meaning.Arithmetic op) t u = common t u
 right_type (meaning.Comparison op) t u = common t u
 right_type (meaning.Shift op) t u = promoted u
 
+-- the type of the result: `int` for comparisons and for `&&` and `||`, the left operand's for shifts, else the common
+-- type (C99 6.5.5 to 6.5.14)
 abbrev pub binary_type : Meaning → (t u : IntType) → IntType
 binary_type (meaning.Logic op) t u = int
 binary_type (meaning.Arithmetic op) t u = common t u
@@ -122,6 +129,7 @@ abbrev mutual
   offences_in env (expression.Conditional' _ (expression.more_of-Expression condition _) p _ (expression.more_of-Expression first _) _ (expression.more_of-Expression second _)) =
       offences_in env condition ++ (offences_in env first ++ offences_in env second)
 
+-- the properties of a binary operator at its place: for its division, and for its overflow or its shift
 abbrev pub operator_sites : BinaryOp → (signed : Bool) → Place → List Site
 operator_sites op signed p = sites_of (division_kind op) p ++ sites_of (other_kind op signed) p
 
@@ -132,9 +140,11 @@ mark_sites (meaning.Arithmetic op) t u p = operator_sites op (common t u).signed
 mark_sites (meaning.Comparison op) t u p = []
 mark_sites (meaning.Shift op) t u p = operator_sites op (promoted t).signed p
 
+-- the properties of a unary operator at its place: the overflow of `-` at a signed type
 abbrev pub unary_sites : UnaryMark → IntType → List Site
 unary_sites mark t = sites_of (unary_kind (unary_op mark.operator) (unary_type (unary_op mark.operator) t).signed) mark.place
 
+-- the one property of an element: its index is within the array's bounds
 abbrev pub bounds_site : Place → List Site
 bounds_site p = (record { kind = kind.Bounds; place = p }) ∷ []
 
@@ -162,9 +172,11 @@ abbrev mutual
 abbrev pub converted_to : IntType → TExpr → TExpr
 converted_to t e = if same_type e.ty t then e else record { ty = t; place = e.place; node = Convert e }
 
+-- a constant of a type
 abbrev pub constant_typed : Place → IntType → ℕ → TExpr
 constant_typed p t n = record { ty = t; place = p; node = Const (pos n) }
 
+-- what a name reads: its object; 0 of type `int` where the name is an offence
 abbrev pub object_typed : Place → Found → TExpr
 object_typed p Unknown = constant_typed p int 0
 object_typed p Other = constant_typed p int 0
@@ -180,11 +192,13 @@ element_typed p (Integer o) x id = record { ty = o.ty; place = p; node = Index o
 abbrev pub placed : Place → TExpr → TExpr
 placed p x = record { ty = x.ty; place = p; node = x.node }
 
+-- a unary operator over its converted operand, with its property where it has one
 abbrev pub unary_typed : (base : ℕ) → UnaryMark → TExpr → TExpr
 unary_typed base mark x =
     let op = unary_op mark.operator in
     record { ty = unary_type op x.ty; place = mark.place; node = Unary op (converted_to (operand_type op x.ty) x) (prop_at base (unary_sites mark x.ty)) }
 
+-- a cast converts to the type that it names (C99 6.5.4)
 abbrev pub cast_typed : Place → IntType → TExpr → TExpr
 cast_typed p t x = record { ty = t; place = p; node = Convert x }
 
@@ -199,14 +213,17 @@ operator_typed base op signed t l r p x y =
           (prop_at (base + length (sites_of (division_kind op) p)) (sites_of (other_kind op signed) p));
     }
 
+-- both operands are converted to their common type, and the result is an `int` (C99 6.5.8, 6.5.9)
 abbrev pub comparison_typed : BinaryOp → TExpr → TExpr → TExpr
 comparison_typed op x y =
     let t = common x.ty y.ty in
     record { ty = int; place = x.place; node = Binary op (converted_to t x) (converted_to t y) None None }
 
+-- `&&` and `||` take each operand in its own type, and give an `int` (C99 6.5.13, 6.5.14)
 abbrev pub logic_typed : LogicOp → TExpr → TExpr → TExpr
 logic_typed op x y = record { ty = int; place = x.place; node = Logic op x y }
 
+-- a binary operator over operands that are converted as its kind asks, with its properties
 abbrev pub binary_typed : (base : ℕ) → Meaning → Place → TExpr → TExpr → TExpr
 binary_typed base (meaning.Logic op) p x y = logic_typed op x y
 binary_typed base (meaning.Arithmetic op) p x y =
@@ -215,6 +232,7 @@ binary_typed base (meaning.Comparison op) p x y = comparison_typed op x y
 binary_typed base (meaning.Shift op) p x y =
     let t = promoted x.ty in operator_typed base op t.signed t t (promoted y.ty) p x y
 
+-- `?:` has the common type of its second and third operand (C99 6.5.15p5)
 abbrev pub choice_typed : TExpr → TExpr → TExpr → TExpr
 choice_typed c x y =
     let t = common x.ty y.ty in record { ty = t; place = c.place; node = Choose c (converted_to t x) (converted_to t y) }

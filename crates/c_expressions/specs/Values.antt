@@ -37,6 +37,7 @@ pub data CAnswer : Type 0 where
   Gives : (n : ℤ) → CAnswer
   Breaks : (kind : PropKind) (place : Place) → CAnswer
 
+-- a number goes on to what needs it, and a check that fails ends the evaluation
 abbrev pub then_with : CAnswer → (ℤ → CAnswer) → CAnswer
 then_with (Gives n) go = go n
 then_with (Breaks k p) go = Breaks k p
@@ -93,18 +94,21 @@ result_of Ge t x y = bit_of (int_le y x)
 abbrev pub operated : BinaryOp → IntType → Place → ℤ → ℤ → CAnswer
 operated op t p x y = check (division_kind op) p (not (is_zero y)) (check (other_kind op t.signed) p (is_met op t x y) (Gives (result_of op t x y)))
 
+-- whether the result of a unary operator is in its type: only `-` can leave it
 abbrev pub unary_met : UnaryOp → IntType → ℤ → Bool
 unary_met Plus t x = true
 unary_met Minus t x = in_range t (neg_ℤ x)
 unary_met Flip t x = true
 unary_met Not t x = true
 
+-- the result of a unary operator: `~x` is -x - 1 and `!x` says whether x is 0 (C99 6.5.3.3)
 abbrev pub unary_result : UnaryOp → IntType → ℤ → ℤ
 unary_result Plus t x = x
 unary_result Minus t x = converted t (neg_ℤ x)
 unary_result Flip t x = converted t (neg_ℤ x -ℤ pos 1)
 unary_result Not t x = bit_of (is_zero x)
 
+-- a unary operator on an operand in its type: its check, then its result
 abbrev pub unary_operated : UnaryOp → IntType → Place → ℤ → CAnswer
 unary_operated op t p x = check (unary_kind op t.signed) p (unary_met op t x) (Gives (unary_result op t x))
 
@@ -113,11 +117,13 @@ abbrev pub decided : LogicOp → ℤ → CAnswer → CAnswer
 decided logic.And x right = if is_zero x then Gives (pos 0) else then_with right (λ y. Gives (truth_of y))
 decided logic.Or x right = if is_zero x then then_with right (λ y. Gives (truth_of y)) else Gives (pos 1)
 
+-- the number that a name's object holds
 abbrev pub value_found : Rows → Found → ℤ
 value_found rows Unknown = pos 0
 value_found rows Other = pos 0
 value_found rows (Integer o) = first_of (rows o.slot)
 
+-- the element at an index, which breaks the bounds if it is negative or not below the length
 abbrev pub element_in : List ℤ → Place → ℤ → CAnswer
 element_in row p (pos i) = if nat_lt i (length row) then Gives (slice_index_or row i (pos 0)) else Breaks kind.Bounds p
 element_in row p (negsuc i) = Breaks kind.Bounds p
@@ -167,6 +173,7 @@ abbrev pub break_at : Option Site → CAnswer
 break_at None = Breaks kind.Recursion (record { line = 0; column = 0 })
 break_at (Some s) = Breaks s.kind s.place
 
+-- the answer of a typed tree, with the property that it breaks told by kind and place
 abbrev pub located : List Site → Answer → CAnswer
 located all (Value n) = Gives n
 located all (Fault id) = break_at (slice_get all id.0)

@@ -50,6 +50,7 @@ after_body is_main result locals TooFew = TooFew
 abbrev pub body_start : CFunction → (params : ℕ) → Here
 body_start f params = record { scopes = f.scopes; objects = f.first + params; result = f.result }
 
+-- how many there are
 abbrev pub count_of : {A : Type 0} → List A → ℕ
 count_of [] = 0
 count_of (x ∷ xs) = suc (count_of xs)
@@ -91,6 +92,7 @@ ended (Goes way s told c) = Stops Ended told c
 ended (Stops e told c) = Stops e told c
 ended TooFew = TooFew
 
+-- what `main`'s body does; up to 31 more activations may stand in it
 abbrev pub after_main : Given → (main : ℕ) → Option CFunction → Onward
 after_main g main None s c = idle s c
 after_main g main (Some f) s c =

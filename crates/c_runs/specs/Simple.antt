@@ -102,6 +102,7 @@ with_arguments env rows (t ∷ ts) [] c go = go []
 with_arguments env rows (t ∷ ts) (e ∷ es) c go =
     with_value (c_value env rows e) c (λ n. with_arguments env rows ts es c (λ ns. go (in_type (type_of env e) t n ∷ ns)))
 
+-- the types of a function's parameters, and none where there is no function
 abbrev pub params_of : Option CFunction → List IntType
 params_of None = []
 params_of (Some f) = f.params
@@ -131,6 +132,7 @@ abbrev pub aim : List Scope → Path → Found
 aim env (path.Object o) = found env false o
 aim env (path.Element' o p _ (path.more_of-Expression e _)) = found env true o
 
+-- the object that an assignment's left side names
 abbrev pub aim_slot : List Scope → Path → Slot
 aim_slot env x = slot_found (aim env x)
 
@@ -207,6 +209,7 @@ after_declarator g calls t h (declarator.InitializedArray x n es) s c =
     set_elements g (in_initializer h (declarator.InitializedArray x n es)).scopes x.place.line (Automatic (number_of h.objects)) t
     (declared_length (declarator.InitializedArray x n es)) 0 es s c
 
+-- the declarators of a declaration take effect in order, each in the scope of those before it (C99 6.2.1p7)
 abbrev pub after_declarators : Given → Calls → IntType → (constant : Bool) → Here → List Declarator → Onward
 after_declarators g calls t constant h [] s c = Goes Next s nothing c
 after_declarators g calls t constant h (d ∷ ds) s c =

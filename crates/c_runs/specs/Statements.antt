@@ -71,10 +71,12 @@ equals_constant t n (constant_as.Is m) = int_eq (converted t m) n
 equals_constant t n constant_as.Never = false
 equals_constant t n constant_as.Undefined = false
 
+-- a `case` whose constant, converted to the type, has this value (C99 6.8.4.2p5)
 abbrev pub is_case : IntType → ℤ → Label → Bool
 is_case t n (label.Case p e) = equals_constant t n (constant_of e)
 is_case t n (label.Default p) = false
 
+-- the `default` label
 abbrev pub is_default : Label → Bool
 is_default (label.Case p e) = false
 is_default (label.Default p) = true

@@ -77,6 +77,7 @@ past_declarator t constant d h = record {
   result = h.result;
 }
 
+-- the place of the text behind all declarators of a declaration
 abbrev pub past_declarators : IntType → (constant : Bool) → List Declarator → Here → Here
 past_declarators t constant [] h = h
 past_declarators t constant (d ∷ ds) h = past_declarators t constant ds (past_declarator t constant d h)
@@ -91,6 +92,7 @@ past_first for_first.Nothing h = h
 past_first (for_first.Local l) h = past_local l h
 past_first (for_first.Simple s) h = h
 
+-- how many objects the first part of a `for` declares
 abbrev pub objects_in_first : ForFirst → ℕ
 objects_in_first for_first.Nothing = 0
 objects_in_first (for_first.Local l) = length l.declarators

@@ -21,12 +21,14 @@ use Rattle.c_words.specs.declared.notes.Notes.{Notes}
 use Rattle.c_words.specs.declared.notes.Site.{Site}
 use Rattle.c_words.specs.Notes.{noted}
 
+-- the operation that a unary operator of the text stands for
 abbrev pub unary_op : UnaryOperator → UnaryOp
 unary_op u.Plus = tu.Plus
 unary_op u.Minus = tu.Minus
 unary_op u.Not = tu.Not
 unary_op u.Complement = tu.Flip
 
+-- what a binary operator of the text is: arithmetic, a shift, a comparison or logic
 abbrev pub meaning_of : BinaryOperator → Meaning
 meaning_of b.Multiply = Arithmetic tb.Mul
 meaning_of b.Divide = Arithmetic tb.Div
@@ -60,6 +62,7 @@ update_op a.And = tb.And
 update_op a.Xor = tb.Xor
 update_op a.Or = tb.Or
 
+-- signed arithmetic can overflow; unsigned can't (C99 6.2.5p9, 6.5p5)
 abbrev pub overflow_if : Bool → Option PropKind
 overflow_if true = Some kind.Overflow
 overflow_if false = None
@@ -102,6 +105,7 @@ other_kind tb.Le s = None
 other_kind tb.Gt s = None
 other_kind tb.Ge s = None
 
+-- the property of a unary operator: only `-` at a signed type has one
 abbrev pub unary_kind : UnaryOp → (signed : Bool) → Option PropKind
 unary_kind tu.Plus s = None
 unary_kind tu.Minus s = overflow_if s
@@ -117,9 +121,11 @@ sites_of (Some k) p = (record { kind = k; place = p }) ∷ []
 abbrev pub number_of : ℕ → ℕ
 number_of n = n % 4294967296
 
+-- the number of the first of these properties in the list, where `base` stand before it
 abbrev pub prop_at : ℕ → List Site → Option PropId
 prop_at base [] = None
 prop_at base (s ∷ sites) = Some (record { 0 = number_of base })
 
+-- with the property of a kind at a place, if there is one
 abbrev pub noted_prop : Notes → Option PropKind → Place → Notes
 noted_prop n k p = noted n [] (sites_of k p)

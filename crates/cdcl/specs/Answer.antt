@@ -32,20 +32,25 @@ pub record IsLogOver (old new : Clauses) (log : List Step) : Type 0 where
   pub gaining : IsGaining new log
   pub inputs : (id : ℕ) → SameClause (input new log id) (clause_at old id)
 
+-- a value for each variable, under which each clause has a true literal
 pub record IsModel (clauses : Clauses) (vars : ℕ) (bits : List Bool) : Type 0 where
   pub size : length bits ≡ vars
   pub satisfied : AllClauses (satisfies (assignment bits)) clauses
 
+-- a log of resolution steps, no longer than the budget, that ends in the empty clause and rests on the given clauses
+-- alone
 pub record IsRefutation (old new : Clauses) (budget : ℕ) (log : List Step) : Type 0 where
   pub shown : IsLogOver old new log
   pub ends : EndsEmpty new log
   pub within : length log ≤ budget
 
+-- the log is as long as the budget, and no step of it gave the empty clause: nothing is said of the clauses
 pub record IsSpent (old new : Clauses) (budget : ℕ) (log : List Step) : Type 0 where
   pub shown : IsLogOver old new log
   pub none_empty : list_all is_open (results new log) ≡ true
   pub exact : length log ≡ budget
 
+-- what each answer of the solver must hold
 abbrev pub IsAnswer : Clauses → Clauses → ℕ → ℕ → Solved → Type 0
 IsAnswer old new vars budget (Model bits) = IsModel old vars bits
 IsAnswer old new vars budget (Refuted log) = IsRefutation old new budget log

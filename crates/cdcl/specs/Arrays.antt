@@ -13,6 +13,7 @@ code_of l = if l.negative then 2 else 1
 abbrev pub value_in : List Lit → ℕ → ℕ
 value_in p v = if has p (lit false v) then 1 else (if has p (lit true v) then 2 else 0)
 
+-- the array has the value of each variable
 abbrev pub AreValues : List Lit → List ℕ → Type 0
 AreValues p values = (v : ℕ) → v < length values → slice_index values v ≡ value_in p v
 

@@ -9,6 +9,7 @@ use Rattle.cdcl.specs.declared.trail.Trail.{Trail}
 use Rattle.cdcl.specs.Trail.{Reasons, State}
 use Rattle.cdcl.specs.Arrays.{reasons_along}
 
+-- how many variables there are
 abbrev pub vars_of : Trail → ℕ
 vars_of t = length t.values.items
 
@@ -16,6 +17,7 @@ vars_of t = length t.values.items
 abbrev pub reasons_of : Trail → Reasons
 reasons_of t = reasons_along t.reasons.items t.lits.items
 
+-- the trail's arrays are a state of the solver over these clauses
 abbrev pub IsKept : Clauses → Trail → Type 0
 IsKept arena t = State arena (vars_of t) t.lits.items (reasons_of t)
 

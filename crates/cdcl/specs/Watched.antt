@@ -39,6 +39,7 @@ pub record IsPaired (p : List Lit) (reasons : Reasons) (h : ℕ) (lists : List (
   pub lists_first : Contains (listed lists two.first) id
   pub lists_second : Contains (listed lists two.second) id
 
+-- what is read where there is no pair for an id
 abbrev pub no_pair : Pair
 no_pair = record { first = record { var = 0; negative = false }; second = record { var = 0; negative = false } }
 
@@ -46,6 +47,7 @@ no_pair = record { first = record { var = 0; negative = false }; second = record
 abbrev pub IsWatchedClause : List Lit → Reasons → ℕ → List (List ClauseId) → ClauseId → Clause → Pair → Type 0
 IsWatchedClause p reasons h lists id c two = (has c two.first ≡ true) × (has c two.second ≡ true) × (IsHeld p reasons c ⊎ IsPaired p reasons h lists id c two)
 
+-- each clause of the arena is watched as its pair says
 abbrev pub IsWatched : Clauses → List Lit → Reasons → ℕ → List (List ClauseId) → List Pair → Type 0
 IsWatched arena p reasons h lists pairs =
     (id : ClauseId) → ForSome (clause_at arena id.0) (λ c. IsWatchedClause p reasons h lists id c (slice_index_or pairs id.0 no_pair))
@@ -58,6 +60,7 @@ Waits xs i id = (j : ℕ) × (i ≤ j) × (j < length xs) × (slice_index_or xs 
 abbrev pub IsVisited : List Lit → List ClauseId → ℕ → ClauseId → Clause → Pair → Lit → Type 0
 IsVisited p xs i id c two w = (two.first ≡ w) ⊎ (two.second ≡ w) → (is_true p c ≡ true) ⊎ Waits xs i id
 
+-- each clause of the arena was visited, or waits in the list of this literal from the place on
 abbrev pub AreVisited : Clauses → List Lit → List (List ClauseId) → List Pair → Lit → ℕ → Type 0
 AreVisited arena p lists pairs w i =
     (id : ClauseId) → ForSome (clause_at arena id.0) (λ c. IsVisited p (listed lists w) i id c (slice_index_or pairs id.0 no_pair) w)

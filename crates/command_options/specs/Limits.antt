@@ -16,6 +16,7 @@ abbrev pub ends_limit : Option (List ℕ × List ℕ) → Bool
 ends_limit None = false
 ends_limit (Some p) = (bytes_eq p.0 (codes "unwind") && is_plain_number p.1) || (bytes_eq p.0 (codes "recursion") && bytes_eq p.1 (codes "1"))
 
+-- an identifier of C before the first `.`, and the end of a limit's name behind it
 abbrev pub is_limit_of : Option (List ℕ × List ℕ) → Bool
 is_limit_of None = false
 is_limit_of (Some p) = is_c_name p.0 && ends_limit (cut 46 p.1)
@@ -24,10 +25,12 @@ is_limit_of (Some p) = is_c_name p.0 && ends_limit (cut 46 p.1)
 abbrev pub is_limit_name : List ℕ → Bool
 is_limit_name name = is_limit_of (cut 46 name)
 
+-- the limit of a count, if the name is a limit's and the count was read
 abbrev pub limit_of : (name : List ℕ) → Option ℕ → Option NamedLimit
 limit_of name None = None
 limit_of name (Some count) = if is_limit_name name then Some (record { name = name; count = count }) else None
 
+-- a name and a count from 1 to 10,000
 abbrev pub entry_at : Option (List ℕ × List ℕ) → Option NamedLimit
 entry_at None = None
 entry_at (Some p) = limit_of p.0 (number_in 1 10000 p.1)
@@ -36,6 +39,7 @@ entry_at (Some p) = limit_of p.0 (number_in 1 10000 p.1)
 abbrev pub entry_in : List ℕ → Option NamedLimit
 entry_in text = entry_at (cut 58 text)
 
+-- an entry before the others; none where one of them isn't of the form
 abbrev pub with_entry : Option NamedLimit → Option (List NamedLimit) → Option (List NamedLimit)
 with_entry None rest = None
 with_entry (Some entry) rest = option_map (λ entries. entry ∷ entries) rest
@@ -50,6 +54,7 @@ abbrev pub are_apart : List NamedLimit → Bool
 are_apart [] = true
 are_apart (entry ∷ entries) = if list_any (λ other. bytes_eq other.name entry.name) entries then false else are_apart entries
 
+-- the entries, if no name stands twice
 abbrev pub if_apart : List NamedLimit → Option (List NamedLimit)
 if_apart entries = if are_apart entries then Some entries else None
 

@@ -7,6 +7,7 @@ use Rattle.c_tokens.specs.Rules.{kind_of as c_kind}
 use Rattle.c_tokens.specs.Kinds.{number_of as c_number}
 use Rattle.c_tokens.specs.declared.kinds.TokenKind.TheVariants as c
 
+-- the text is one token, and of this kind
 abbrev pub is_kind : (kind : ℕ) → Option ℕ → Bool
 is_kind kind None = false
 is_kind kind (Some k) = k == kind

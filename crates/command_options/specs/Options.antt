@@ -39,6 +39,7 @@ decide_of text = if bytes_eq text (codes "order") then Some Order else if bytes_
 abbrev pub decide_in : Option Text → Option Decide
 decide_in value = or_default Activity decide_of value
 
+-- the name of the top module, if it is an identifier of Verilog
 abbrev pub top_of : Text → Option (Option Text)
 top_of text = if is_verilog_name text then Some (Some text) else None
 
@@ -50,6 +51,7 @@ top_in value = or_default None top_of value
 abbrev pub file_in : Text → Option Text
 file_in text = if length text == 0 then None else Some text
 
+-- the bounds, if both numbers could be read; the limits by name are set later
 abbrev pub bounds_from : (frames unwind : Option ℕ) → (check_bound : Bool) → Option Bounds
 bounds_from None unwind check_bound = None
 bounds_from (Some frames) None check_bound = None
@@ -71,6 +73,7 @@ all_of (Some top) (Some bounds) (Some limits) (Some budget) (Some decide) (Some 
 all_of (Some top) (Some bounds) (Some limits) (Some budget) (Some decide) (Some c) (Some v) =
     Some (record { top = top; bounds = bounds; limits = limits; budget = budget; decide = decide; c_file = c; v_file = v })
 
+-- the options that the words of a command line ask for; none if one of them is wrong
 abbrev pub options_in : Said → Option Options
 options_in said =
     all_of (top_in said.top) (bounds_in said.bound said.unwind said.check_bound) (named_in said.unwindset) (budget_in said.budget) (decide_in said.decide) (file_in said.c_file) (file_in said.v_file)

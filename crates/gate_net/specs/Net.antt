@@ -26,6 +26,7 @@ IsValuation net a = (i : ℕ) → ForSome (slice_get net i) (NodeHolds a i)
 abbrev pub IsConjunction : List Node → Edge → Edge → Edge → Type 0
 IsConjunction net e l r = (a : ℕ → Bool) → IsValuation net a → edge_value a e ≡ (edge_value a l && edge_value a r)
 
+-- a node is a gate of two inputs; the constant and the inputs of the net aren't
 abbrev pub is_gate : Node → Bool
 is_gate One = false
 is_gate Input = false

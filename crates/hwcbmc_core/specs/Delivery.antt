@@ -7,6 +7,8 @@ use Rattle.src_text.specs.Kind.{text_of}
 use Rattle.hwcbmc_core.specs.declared.answer.Answer.{Answer}
 use Rattle.hwcbmc_core.specs.declared.answer.Answer.TheVariants.{Usage, ReadFault, Refused, Failed, Successful, Memory}
 
+-- the exit status of an answer: 0 for a success, 10 for a broken property, and one of its own for each reason why
+-- there is no verdict
 abbrev pub status_of : Answer → ℕ
 status_of Usage = 64
 status_of (ReadFault file) = 7

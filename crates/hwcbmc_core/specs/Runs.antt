@@ -36,6 +36,7 @@ pub data Event : Type 0 where
   Frame : ℕ → List Shown → Event
   Broke : Property → Event
 
+-- a run: how it ends, and what it tells, in order
 pub record Run : Type 0 where
   pub outcome : Outcome
   pub events : List Event

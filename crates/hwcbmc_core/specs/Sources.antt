@@ -7,6 +7,7 @@ use Rattle.hwcbmc_core.specs.declared.sources.Counter.{Counter}
 abbrev pub edge_line : List ℕ
 edge_line = codes "  next_timeframe();\n"
 
+-- one such line for each clock edge
 abbrev pub edge_lines : ℕ → List ℕ
 edge_lines zero = []
 edge_lines (suc edges) = edge_line ++ edge_lines edges
@@ -19,6 +20,7 @@ c_head = codes "#include <assert.h>\nstruct counter { unsigned char count; };\ne
 abbrev pub assert_head : List ℕ
 assert_head = codes "  assert(counter.count == "
 
+-- what follows the number in the C text: the end of the assertion and of `main`
 abbrev pub c_tail : List ℕ
 c_tail = codes ");\n  return 0;\n}\n"
 
@@ -30,9 +32,11 @@ c_source edges expected = c_head ++ (edge_lines edges ++ (assert_head ++ (decima
 abbrev pub v_head : List ℕ
 v_head = codes "module counter(input clk, output reg [7:0] count); initial count = "
 
+-- between the first value and the step: the register gains the step at each rising edge of the clock
 abbrev pub v_middle : List ℕ
 v_middle = codes "; always @(posedge clk) count <= count + "
 
+-- behind the step
 abbrev pub v_tail : List ℕ
 v_tail = codes "; endmodule\n"
 

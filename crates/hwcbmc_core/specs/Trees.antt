@@ -37,6 +37,7 @@ abbrev pub of_c : CEnd → TreesEnd
 of_c (c_ends.Refused refusal) = CRefused refusal
 of_c c_ends.Memory = Memory
 
+-- how the reading of both texts ends where the Verilog text gives no tree
 abbrev pub of_v : VEnd → TreesEnd
 of_v (v_ends.Refused refusal) = VRefused refusal
 of_v v_ends.Memory = Memory

@@ -227,6 +227,7 @@ frame_weight p =
 abbrev pub turns_weight : (n condition turn : ℕ) → ℕ
 turns_weight n condition turn = n * (condition + turn + 16) + condition + 16
 
+-- what a statement weighs, with the parts that hold statements again; a statement that steers weighs at least 16
 abbrev mutual
   pub weight : Setting → CallWeights → SNode → ℕ
   weight k calls (Block' _ row) = row_weight k calls row + 16

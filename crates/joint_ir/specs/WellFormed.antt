@@ -360,6 +360,8 @@ all_labels (more_of-Group g rest) = group_labels g ++ all_labels rest
 abbrev pub AreDistinct : List Label → Type 0
 AreDistinct labels = All (λ a. count_by (same_label a) labels ≡ 1) labels
 
+-- a statement is well-formed where it stands: its expressions fit, jumps have something to leave, and its properties
+-- exist
 abbrev mutual
   pub FitsStmt : Scope → SNode → Type 0
   FitsStmt c (Block' _ row) = FitsRow c row

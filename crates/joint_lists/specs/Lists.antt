@@ -29,6 +29,7 @@ after_cases k calls (g ∷ rest) s c = then_do (after_items k calls (out-Group g
 abbrev pub case_with : (Label → Bool) → List Group → Option ℕ
 case_with test groups = position_from (λ g. list_any test (out-Group g).labels) 0 groups
 
+-- the first place, or else the second
 abbrev pub or_else : Option ℕ → Option ℕ → Option ℕ
 or_else (Some i) other = Some i
 or_else None other = other
@@ -42,6 +43,7 @@ abbrev pub FitsItems : Scope → List TStmt → Type 0
 FitsItems c [] = Unit {0}
 FitsItems c (x ∷ rest) = FitsStmt c x.node × FitsItems (with_scope_locals c (declared_behind x.node c.locals)) rest
 
+-- a statement is well-formed, if there is one
 abbrev pub FitsOptional : Scope → Option TStmt → Type 0
 FitsOptional c None = Unit {0}
 FitsOptional c (Some x) = FitsStmt c x.node

@@ -18,10 +18,12 @@ abbrev pub declared_items : List TStmt → List ℕ
 declared_items [] = []
 declared_items (s ∷ rest) = declared_in s.node ++ declared_items rest
 
+-- the locals that a statement declares, if there is one
 abbrev pub declared_option : Option TStmt → List ℕ
 declared_option None = []
 declared_option (Some s) = declared_in s.node
 
+-- the locals that the groups of a `switch` declare, in order
 abbrev pub declared_cases : List Group → List ℕ
 declared_cases [] = []
 declared_cases (g ∷ rest) = declared_items (out-Group g).body ++ declared_cases rest

@@ -14,6 +14,7 @@ pub record Takes (p : CProgram) (fn : Function) (args : List ℤ) : Type 0 where
   pub count : length args ≡ fn.params
   pub typed : AreParams p fn.first args
 
+-- if there is such a function, these numbers are right for its parameters
 abbrev pub IsTaken : CProgram → (function : ℕ) → List ℤ → Type 0
 IsTaken p f args = (fn : Function) → slice_get p.functions f ≡ Some fn → Takes p fn args
 

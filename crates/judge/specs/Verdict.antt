@@ -36,6 +36,7 @@ pub record IsSpentBudget (pair : Pair) (bounds : Bounds) (budget : ℕ) (p : Pro
   pub none_empty : list_all is_open (results p.arena.clauses p.log) ≡ true
   pub earned : (variables : List ℕ) → AreOver variables p.arena.clauses p.log → budget < 3 ^ length variables
 
+-- what each verdict on a pair within bounds must hold
 abbrev pub IsVerdict : Pair → Bounds → (budget : ℕ) → Verdict → Type 0
 IsVerdict pair bounds budget (Successful p) = IsSuccess pair bounds budget p
 IsVerdict pair bounds budget (Failed choices r) = IsFailure pair bounds choices r
