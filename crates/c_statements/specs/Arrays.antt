@@ -22,6 +22,7 @@ abbrev pub is_length : ℤ → Bool
 is_length (pos n) = nat_le 1 n && nat_le n 4096
 is_length (negsuc n) = false
 
+-- the length of an array, and 1 where it is an offence
 abbrev pub length_in : ℤ → ℕ
 length_in (pos n) = if is_length (pos n) then n else 1
 length_in (negsuc n) = 1
@@ -39,14 +40,17 @@ declared_length (declarator.Initialized x i) = 0
 declared_length (declarator.Array x n) = array_length (constant_of n)
 declared_length (declarator.InitializedArray x n es) = array_length (constant_of n)
 
+-- a constant that can't be an array's length is an offence (C99 6.7.5.2p1)
 abbrev pub range_offences : Place → Constant → List Offence
 range_offences p (Is n) = if is_length n then [] else at p CLength
 range_offences p Never = []
 range_offences p Undefined = []
 
+-- the length in brackets has to be a constant expression, and a length
 abbrev pub array_offences : List Scope → Expression → List Offence
 array_offences env n = constant_offences env (expression_start n) n ++ range_offences (expression_start n) (constant_of n)
 
+-- more initializers than elements are an offence, told at the first that is too much (C99 6.7.8p2)
 abbrev pub first_excess : List Expression → List Offence
 first_excess [] = []
 first_excess (e ∷ es) = at (expression_start e) CInitializers

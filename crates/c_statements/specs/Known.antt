@@ -5,6 +5,7 @@ use Rattle.c_words.specs.declared.notes.Site.{Site}
 use Rattle.c_names.specs.Scope.{Scope, leave}
 use Rattle.c_statements.specs.declared.calls.Signature.{Signature}
 
+-- what is known at a place of a function's text
 pub record Known : Type 0 where
   pub fns : List Signature
   pub scopes : List Scope
@@ -13,12 +14,15 @@ pub record Known : Type 0 where
   -- the properties so far
   pub sites : List Site
 
+-- with other scopes
 abbrev pub with_scopes : Known → List Scope → Known
 with_scopes k scopes = record { fns = k.fns; scopes = scopes; locals = k.locals; sites = k.sites }
 
+-- at the beginning of a block, which has a scope of its own (C99 6.2.1p4)
 abbrev pub enter : Known → Known
 enter k = with_scopes k ([] ∷ k.scopes)
 
+-- at the end of a block, whose names end with it
 abbrev pub leave_scope : Known → Known
 leave_scope k = with_scopes k (leave k.scopes)
 

@@ -5,6 +5,7 @@ use Rattle.offence_order.specs.Order.{first_of}
 use Rattle.c_statements.specs.declared.walk.Typer.{Typer}
 use Rattle.c_statements.specs.Known.{Known}
 
+-- what a typer knows
 abbrev pub known_of : Typer → Known
 known_of t = record { fns = t.signatures; scopes = t.scopes; locals = t.locals; sites = t.notes.sites }
 

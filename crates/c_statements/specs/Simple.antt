@@ -39,26 +39,32 @@ use Rattle.c_statements.specs.declared.calls.Callee.TheVariants as callee_as
 use Rattle.c_statements.specs.declared.calls.Signature.{Signature}
 use Rattle.c_statements.specs.Calls.{callee, args_sites, call_offences, call_args, call_typed, init_offences, init_sites, init_typed}
 
+-- what is assigned to has to be an object that is not `const` (C99 6.3.2.1p1, 6.5.16p2)
 abbrev pub store_offences : Place → Found → List Offence
 store_offences p found_as.Unknown = at p CUnknownName
 store_offences p found_as.Other = at p CNotAssignable
 store_offences p (found_as.Integer o) = if o.constant then at p CNotAssignable else []
 
+-- the object of a name; one that nothing reads where the name is an offence
 abbrev pub slot_found : Found → Slot
 slot_found found_as.Unknown = BoundValue
 slot_found found_as.Other = BoundValue
 slot_found (found_as.Integer o) = o.slot
 
+-- what the left side of an assignment offends: its name first, then its index
 abbrev pub target_offences : List Scope → Path → List Offence
 target_offences env (path.Object o) = store_offences o.name.place (found env false o)
 target_offences env (path.Element' o p _ (path.more_of-Expression e _)) = store_offences o.name.place (found env true o) ++ offences_in env e
 
+-- the object as a whole is assigned to
 abbrev pub plain_target : Place → Found → TTarget
 plain_target p o = record { place = p; slot = slot_found o; index = None; bounds = None }
 
+-- the element at an index is assigned to, with the property that the index is within the bounds
 abbrev pub element_target : Place → Found → TExpr → ℕ → TTarget
 element_target p o x id = record { place = p; slot = slot_found o; index = Some x; bounds = Some (record { 0 = number_of id }) }
 
+-- the left side of an assignment; the property of its bounds stands behind those of its index
 abbrev pub target_typed : List Scope → (base : ℕ) → Path → TTarget
 target_typed env base (path.Object o) = plain_target o.name.place (found env false o)
 target_typed env base (path.Element' o p _ (path.more_of-Expression e _)) =
@@ -72,6 +78,7 @@ frame_sites p callee_as.SetInputs = []
 frame_sites p callee_as.NextFrame = (record { kind = kind.Frame; place = p }) ∷ []
 frame_sites p (callee_as.Declared f) = []
 
+-- a call as a statement: of a function, or of one of the two that steer the circuit; nothing where it is an offence
 abbrev pub call_node : Place → Callee → (id : ℕ) → List TExpr → SNode
 call_node p callee_as.Unknown id args = Block []
 call_node p callee_as.NotFunction id args = Block []
@@ -121,10 +128,12 @@ update_type op t u = left_type (meaning_with op) t u
 abbrev pub amount_type : BinaryOp → (t u : IntType) → IntType
 amount_type op t u = right_type (meaning_with op) t u
 
+-- the properties of `op=`: of its left side, of its right side, then of its operator
 abbrev pub update_sites : List Scope → Path → AssignmentMark → Expression → List Site
 update_sites env x mark e =
     path_sites env x ++ (sites_in env e ++ operator_sites (update_op mark.operator) (update_type (update_op mark.operator) (path_type env x) (type_of env e)).signed mark.place)
 
+-- `op=` reads its left side, converts both sides as the operator asks, and stores the result (C99 6.5.16.2p3)
 abbrev pub update_typed : List Scope → (base : ℕ) → Path → AssignmentMark → Expression → SNode
 update_typed env base x mark e =
     let op = update_op mark.operator in
@@ -133,13 +142,16 @@ update_typed env base x mark e =
     let right = base + length (path_sites env x) in
     Update (target_typed env base x) (updated (right + length (sites_in env e)) op (update_type op t u) (Some (converted_to (amount_type op t u) (typed_of env right e))) mark.place)
 
+-- the properties of `++` and `--`: of the left side, then of adding or subtracting 1
 abbrev pub stepped_sites : List Scope → Path → StepMark → List Site
 stepped_sites env x mark = path_sites env x ++ operator_sites (step_op mark.operator) (common (path_type env x) int).signed mark.place
 
+-- `++` and `--` add or subtract 1 at the common type with `int` (C99 6.5.2.4, 6.5.3.1)
 abbrev pub stepped_typed : List Scope → (base : ℕ) → Path → StepMark → SNode
 stepped_typed env base x mark =
     Update (target_typed env base x) (updated (base + length (path_sites env x)) (step_op mark.operator) (common (path_type env x) int) None mark.place)
 
+-- what an assignment, a step or a call offends, from left to right
 abbrev pub simple_offences : List Signature → List Scope → Simple → List Offence
 simple_offences fns env (simple.Assign x i) = target_offences env x ++ init_offences fns env i
 simple_offences fns env (simple.Update x mark e) = target_offences env x ++ offences_in env e
@@ -147,6 +159,7 @@ simple_offences fns env (simple.StepAfter x mark) = target_offences env x
 simple_offences fns env (simple.StepBefore mark x) = target_offences env x
 simple_offences fns env (simple.Called call) = call_offences fns env call
 
+-- the properties of an assignment, a step or a call, in order
 abbrev pub simple_sites : List Scope → Simple → List Site
 simple_sites env (simple.Assign x i) = path_sites env x ++ init_sites env i
 simple_sites env (simple.Update x mark e) = update_sites env x mark e
@@ -154,6 +167,7 @@ simple_sites env (simple.StepAfter x mark) = stepped_sites env x mark
 simple_sites env (simple.StepBefore mark x) = stepped_sites env x mark
 simple_sites env (simple.Called call) = args_sites env call.arguments ++ frame_sites call.name.place (callee env call)
 
+-- the typed statement of an assignment, a step or a call
 abbrev pub simple_typed : List Signature → List Scope → (base : ℕ) → Simple → SNode
 simple_typed fns env base (simple.Assign x i) =
     Store (target_typed env base x) (init_typed fns env (base + length (path_sites env x)) (path_type env x) i)

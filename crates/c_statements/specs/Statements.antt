@@ -48,28 +48,34 @@ use Rattle.c_statements.specs.Switches.{labels_typed, labels_offences}
 use Rattle.c_statements.specs.Simple.{simple_offences, simple_sites, simple_typed}
 use Rattle.c_statements.specs.Known.{Known, with_scopes, enter, leave_scope, more}
 
+-- there is one
 abbrev pub is_some : {A : Type 0} → Option A → Bool
 is_some None = false
 is_some (Some x) = true
 
+-- a name may be declared once in a scope (C99 6.7p3)
 abbrev pub again_offences : Place → Option Entry → List Offence
 again_offences p None = []
 again_offences p (Some e) = at p CRedeclared
 
+-- the name that a declarator declares
 abbrev pub declared_name : Declarator → Identifier
 declared_name (declarator.Plain x) = x
 declared_name (declarator.Initialized x i) = x
 declared_name (declarator.Array x n) = x
 declared_name (declarator.InitializedArray x n es) = x
 
+-- what a value offends, if there is one
 abbrev pub option_init_offences : List Signature → List Scope → Option Initializer → List Offence
 option_init_offences fns env None = []
 option_init_offences fns env (Some i) = init_offences fns env i
 
+-- the properties of a value, if there is one
 abbrev pub option_init_sites : List Scope → Option Initializer → List Site
 option_init_sites env None = []
 option_init_sites env (Some i) = init_sites env i
 
+-- the value that is stored; without one the object's value is left open (C99 6.7.8p10)
 abbrev pub option_init_typed : List Signature → List Scope → (base : ℕ) → IntType → Option Initializer → TInit
 option_init_typed fns env base t None = init.Free
 option_init_typed fns env base t (Some i) = init_typed fns env base t i
@@ -78,9 +84,11 @@ option_init_typed fns env base t (Some i) = init_typed fns env base t i
 abbrev pub pending : Known → Identifier → List Scope
 pending k x = declare k.scopes x.name entry.Pending
 
+-- an automatic variable
 abbrev pub var_of : IntType → (length : ℕ) → (constant : Bool) → Identifier → Var
 var_of t n constant x = record { name = x.name; ty = t; length = n; firsts = []; constant = constant }
 
+-- what the name of the i-th local means
 abbrev pub local_entry : ℕ → IntType → (length : ℕ) → (constant : Bool) → Entry
 local_entry i t n constant = entry.Object (record { slot = InLocals (number_of i); ty = t; length = n; constant = constant })
 
@@ -100,113 +108,139 @@ value_offences fns env (declarator.Initialized x i) = init_offences fns env i
 value_offences fns env (declarator.Array x n) = []
 value_offences fns env (declarator.InitializedArray x n es) = args_offences env es
 
+-- the properties of what a declarator's object is set to
 abbrev pub value_sites : List Scope → Declarator → List Site
 value_sites env (declarator.Plain x) = []
 value_sites env (declarator.Initialized x i) = init_sites env i
 value_sites env (declarator.Array x n) = []
 value_sites env (declarator.InitializedArray x n es) = args_sites env es
 
+-- what a declarator's object is set to; without an initializer its value is left open
 abbrev pub value_typed : List Signature → List Scope → (base : ℕ) → IntType → Declarator → TInit
 value_typed fns env base t (declarator.Plain x) = init.Free
 value_typed fns env base t (declarator.Initialized x i) = init_typed fns env base t i
 value_typed fns env base t (declarator.Array x n) = init.Free
 value_typed fns env base t (declarator.InitializedArray x n es) = init.Values (elements_typed env base t es)
 
+-- what is known behind a declarator: its properties and its variable
 abbrev pub declarator_known : IntType → (constant : Bool) → Declarator → Known → Known
 declarator_known t constant d k =
     with_local (more (with_scopes k (pending k (declared_name d))) (value_sites (pending k (declared_name d)) d)) t (declared_length d) constant (declared_name d)
 
+-- what a declarator offends: its length, its name that is declared again, then its values
 abbrev pub declarator_offences : Known → Declarator → List Offence
 declarator_offences k d =
     length_offences k.scopes d
     ++ (again_offences (declared_name d).place (declared_in k.scopes (declared_name d).name)
     ++ value_offences k.fns (pending k (declared_name d)) d)
 
+-- the declaration of the next local, with what it is set to
 abbrev pub declarator_typed : IntType → Known → Declarator → TStmt
 declarator_typed t k d = record {
   place = (declared_name d).place;
   node = Declare (number_of (length k.locals)) (value_typed k.fns (pending k (declared_name d)) (length k.sites) t d);
 }
 
+-- what is known behind declarators
 abbrev pub declarators_known : IntType → (constant : Bool) → List Declarator → Known → Known
 declarators_known t constant [] k = k
 declarators_known t constant (d ∷ ds) k = declarators_known t constant ds (declarator_known t constant d k)
 
+-- what declarators offend; each is in the scope of those before it (C99 6.2.1p7)
 abbrev pub declarators_offences : IntType → (constant : Bool) → Known → List Declarator → List Offence
 declarators_offences t constant k [] = []
 declarators_offences t constant k (d ∷ ds) = declarator_offences k d ++ declarators_offences t constant (declarator_known t constant d k) ds
 
+-- the declarations of declarators, in order
 abbrev pub declarators_typed : IntType → (constant : Bool) → Known → List Declarator → List TStmt
 declarators_typed t constant k [] = []
 declarators_typed t constant k (d ∷ ds) = declarator_typed t k d ∷ declarators_typed t constant (declarator_known t constant d k) ds
 
+-- what is known behind a declaration in a block
 abbrev pub local_known : Local → Known → Known
 local_known l k = declarators_known (named l.type_name.integer) (is_some l.constant) l.declarators k
 
+-- what a declaration in a block offends
 abbrev pub local_offences : Known → Local → List Offence
 local_offences k l = declarators_offences (named l.type_name.integer) (is_some l.constant) k l.declarators
 
+-- the typed declarations of a declaration in a block
 abbrev pub local_typed : Known → Local → List TStmt
 local_typed k l = declarators_typed (named l.type_name.integer) (is_some l.constant) k l.declarators
 
+-- what is known behind the first part of a `for`
 abbrev pub first_known : ForFirst → Known → Known
 first_known for_first.Nothing k = k
 first_known (for_first.Local l) k = local_known l k
 first_known (for_first.Simple s) k = more k (simple_sites k.scopes s)
 
+-- what the first part of a `for` offends
 abbrev pub first_offences : Known → ForFirst → List Offence
 first_offences k for_first.Nothing = []
 first_offences k (for_first.Local l) = local_offences k l
 first_offences k (for_first.Simple s) = simple_offences k.fns k.scopes s
 
+-- an assignment, a step or a call as a statement at its place
 abbrev pub simple_stmt : Known → Simple → TStmt
 simple_stmt k s = record { place = simple_start s; node = simple_typed k.fns k.scopes (length k.sites) s }
 
+-- the first part of a `for` as statements
 abbrev pub first_typed : Known → ForFirst → List TStmt
 first_typed k for_first.Nothing = []
 first_typed k (for_first.Local l) = local_typed k l
 first_typed k (for_first.Simple s) = simple_stmt k s ∷ []
 
+-- what the condition of a `for` offends, if there is one
 abbrev pub condition_offences : Known → Option Expression → List Offence
 condition_offences k None = []
 condition_offences k (Some e) = offences_in k.scopes e
 
+-- the properties of the condition of a `for`, if there is one
 abbrev pub condition_sites : Known → Option Expression → List Site
 condition_sites k None = []
 condition_sites k (Some e) = sites_in k.scopes e
 
+-- the condition of a `for`; without one it always holds (C99 6.8.5.3p2)
 abbrev pub condition_typed : Known → Option Expression → Option TExpr
 condition_typed k None = None
 condition_typed k (Some e) = Some (typed_of k.scopes (length k.sites) e)
 
+-- what the last part of a `for` offends, if there is one
 abbrev pub step_offences : Known → Option Simple → List Offence
 step_offences k None = []
 step_offences k (Some s) = simple_offences k.fns k.scopes s
 
+-- the properties of the last part of a `for`, if there is one
 abbrev pub step_sites : Known → Option Simple → List Site
 step_sites k None = []
 step_sites k (Some s) = simple_sites k.scopes s
 
+-- the last part of a `for`, if there is one
 abbrev pub step_typed : Known → Option Simple → Option TStmt
 step_typed k None = None
 step_typed k (Some s) = Some (simple_stmt k s)
 
+-- a function with a result returns a value, and one without a result doesn't (C99 6.8.6.4p1)
 abbrev pub wrong_return : Place → Option IntType → (given : Bool) → List Offence
 wrong_return p None false = []
 wrong_return p None true = at p CReturn
 wrong_return p (Some t) false = at p CReturn
 wrong_return p (Some t) true = []
 
+-- what `return` offends by having a value or none
 abbrev pub return_offences : Place → Option IntType → Option Initializer → List Offence
 return_offences p r i = wrong_return p r (is_some i)
 
+-- the value is converted to the function's result type (C99 6.8.6.4p3)
 abbrev pub return_typed : Known → Option IntType → Option Initializer → SNode
 return_typed k r None = Return None
 return_typed k r (Some i) = Return (Some (init_typed k.fns k.scopes (length k.sites) (type_or_int r) i))
 
+-- `break` and `continue` stand only where there is something to leave or to go on with (C99 6.8.6.2p1, 6.8.6.3p1)
 abbrev pub jump_offences : Place → (allowed : Bool) → List Offence
 jump_offences p allowed = if allowed then [] else at p CJump
 
+-- one property of a kind at a place
 abbrev pub site_at : PropKind → Place → List Site
 site_at k p = (record { kind = k; place = p }) ∷ []
 
@@ -214,15 +248,19 @@ site_at k p = (record { kind = k; place = p }) ∷ []
 abbrev pub own : PropKind → Place → Known → Known
 own kind p k = more k (site_at kind p)
 
+-- what is known behind an expression: its properties are counted
 abbrev pub after_expression : Expression → Known → Known
 after_expression e k = more k (sites_in k.scopes e)
 
+-- the number that the next property gets
 abbrev pub id_of : Known → PropId
 id_of k = record { 0 = number_of (length k.sites) }
 
+-- inside a loop both jumps may stand
 abbrev pub in_a_loop : Around → Around
 in_a_loop a = record { result = a.result; in_loop = true; may_break = true }
 
+-- inside a `switch` a `break` may stand; `continue` only if a loop is around it
 abbrev pub in_a_switch : Around → Around
 in_a_switch a = record { result = a.result; in_loop = a.in_loop; may_break = true }
 
@@ -230,9 +268,11 @@ in_a_switch a = record { result = a.result; in_loop = a.in_loop; may_break = tru
 abbrev pub at_condition : Place → ForFirst → Known → Known
 at_condition p first k = first_known first (own kind.Unwind p (enter k))
 
+-- what is known at the last part of a `for`, whose text stands behind the condition
 abbrev pub at_step : Place → ForFirst → Option Expression → Known → Known
 at_step p first c k = more (at_condition p first k) (condition_sites (at_condition p first k) c)
 
+-- what is known at the body of a `for`
 abbrev pub at_body : Place → ForFirst → Option Expression → Option Simple → Known → Known
 at_body p first c step k = more (at_step p first c k) (step_sites (at_step p first c k) step)
 
@@ -271,6 +311,7 @@ abbrev mutual
   known_after_row statement.end_of-BlockItem k = k
   known_after_row (statement.more_of-BlockItem x row) k = known_after_row row (known_after_item x k)
 
+-- what a statement, and all that stands in it, offends, in the order of the text
 abbrev mutual
   pub offences_of : Around → Known → Statement → List Offence
   offences_of a k (statement.Compound' p _ items) = row_offences a (enter k) items
@@ -313,24 +354,31 @@ abbrev mutual
   row_offences a k statement.end_of-BlockItem = []
   row_offences a k (statement.more_of-BlockItem x row) = item_offences a k x ++ row_offences a (known_after_item x k) row
 
+-- `while` tests before each turn (C99 6.8.5.1)
 abbrev pub while_typed : PropId → TExpr → TStmt → SNode
 while_typed id c s = Loop (roll-TLoop (record { tests_first = true; heads = []; cond = Some c; step = None; body = s; unwind = id }))
 
+-- labels of a `switch`, and the statements behind them
 abbrev pub group_typed : List TLabel → List TStmt → TGroup
 group_typed labels body = roll-Group (record { labels = labels; body = body })
 
+-- `do` tests after each turn (C99 6.8.5.2)
 abbrev pub do_typed : PropId → TExpr → TStmt → SNode
 do_typed id c s = Loop (roll-TLoop (record { tests_first = false; heads = []; cond = Some c; step = None; body = s; unwind = id }))
 
+-- `for` has its first part once, tests before each turn, and has its last part after each turn (C99 6.8.5.3)
 abbrev pub for_typed : PropId → List TStmt → Option TExpr → Option TStmt → TStmt → SNode
 for_typed id heads c step s = Loop (roll-TLoop (record { tests_first = true; heads = heads; cond = c; step = step; body = s; unwind = id }))
 
+-- a statement at a place
 abbrev pub stmt_at : Place → SNode → TStmt
 stmt_at p n = record { place = p; node = n }
 
+-- an assertion, whose property comes before those of its expression
 abbrev pub assert_typed : Place → Known → Expression → TStmt
 assert_typed p k e = stmt_at p (Assert (typed_of k.scopes (length (own kind.Assertion p k).sites) e) (id_of k))
 
+-- the typed statement, where this is known before it
 abbrev mutual
   pub stmt_typed : Around → Known → Statement → TStmt
   stmt_typed a k (statement.Compound' p _ items) = stmt_at p (Block (row_typed a (enter k) items))
@@ -380,35 +428,43 @@ abbrev pub items_known : List BlockItem → Known → Known
 items_known [] k = k
 items_known (x ∷ xs) k = items_known xs (known_after_item x k)
 
+-- what the items of a block offend, in order
 abbrev pub items_offences : Around → Known → List BlockItem → List Offence
 items_offences a k [] = []
 items_offences a k (x ∷ xs) = item_offences a k x ++ items_offences a (known_after_item x k) xs
 
+-- the typed statements of the items of a block
 abbrev pub items_typed : Around → Known → List BlockItem → List TStmt
 items_typed a k [] = []
 items_typed a k (x ∷ xs) = item_typed a k x ++ items_typed a (known_after_item x k) xs
 
+-- what is known behind statements
 abbrev pub statements_known : List Statement → Known → Known
 statements_known [] k = k
 statements_known (x ∷ xs) k = statements_known xs (known_after x k)
 
+-- what statements offend, in order
 abbrev pub statements_offences : Around → Known → List Statement → List Offence
 statements_offences a k [] = []
 statements_offences a k (x ∷ xs) = offences_of a k x ++ statements_offences a (known_after x k) xs
 
+-- the typed statements, in order
 abbrev pub statements_typed : Around → Known → List Statement → List TStmt
 statements_typed a k [] = []
 statements_typed a k (x ∷ xs) = stmt_typed a k x ∷ statements_typed a (known_after x k) xs
 
+-- what is known behind the groups of a `switch`
 abbrev pub cases_known : List Group → Known → Known
 cases_known [] k = k
 cases_known (g ∷ gs) k = cases_known gs (statements_known g.body k)
 
+-- what the groups of a `switch` offend; a label may not stand twice among those seen (C99 6.8.4.2p3)
 abbrev pub cases_offences : Around → Known → IntType → (seen : List TLabel) → List Group → List Offence
 cases_offences a k t seen [] = []
 cases_offences a k t seen (g ∷ gs) =
     labels_offences k.scopes t seen g.labels ++ (statements_offences a k g.body ++ cases_offences a (statements_known g.body k) t (seen ++ labels_typed t g.labels) gs)
 
+-- the typed groups of a `switch`, in order
 abbrev pub cases_typed : Around → Known → IntType → List Group → List TGroup
 cases_typed a k t [] = []
 cases_typed a k t (g ∷ gs) = group_typed (labels_typed t g.labels) (statements_typed a k g.body) ∷ cases_typed a (statements_known g.body k) t gs

@@ -17,6 +17,7 @@ use Rattle.c_constants.specs.declared.Constant.{Constant}
 use Rattle.c_constants.specs.declared.Constant.TheVariants.{Is, Never, Undefined}
 use Rattle.c_constants.specs.Constants.{constant_of, constant_offences}
 
+-- the label as a list, and none where there is none
 abbrev pub listed : Option TLabel → List TLabel
 listed None = []
 listed (Some l) = l ∷ []
@@ -37,14 +38,17 @@ abbrev pub twice_offences : Place → (seen : List TLabel) → List TLabel → L
 twice_offences p seen [] = []
 twice_offences p seen (l ∷ ls) = if list_any (same_label l) seen then at p CCase else []
 
+-- what a label offends: its constant expression, and that its value or `default` stood before (C99 6.8.4.2p3)
 abbrev pub label_offences : List Scope → IntType → (seen : List TLabel) → Label → List Offence
 label_offences env t seen (label.Case p e) = constant_offences env p e ++ twice_offences p seen (case_of t (constant_of e))
 label_offences env t seen (label.Default p) = twice_offences p seen (Default ∷ [])
 
+-- the typed labels, with constants converted to the promoted type (C99 6.8.4.2p5)
 abbrev pub labels_typed : IntType → List Label → List TLabel
 labels_typed t [] = []
 labels_typed t (l ∷ ls) = label_typed t l ++ labels_typed t ls
 
+-- what labels offend, in order
 abbrev pub labels_offences : List Scope → IntType → (seen : List TLabel) → List Label → List Offence
 labels_offences env t seen [] = []
 labels_offences env t seen (l ∷ ls) = label_offences env t seen l ++ labels_offences env t (seen ++ label_typed t l) ls
