@@ -18,6 +18,7 @@ use Rattle.elab_firsts.specs.declared.values.FirstWrite.{FirstWrite}
 abbrev pub register_bits : ℕ → ℕ
 register_bits bits = max 1 (min 64 bits)
 
+-- the low bits that the register holds, and 0 for what has no value
 abbrev pub low_value : ℕ → Worth → ℕ
 low_value bits (Value w) = w.value % 2 ^ register_bits bits
 low_value bits Open = 0
@@ -27,9 +28,11 @@ low_value bits NotConstant = 0
 abbrev pub assigned_context : ℕ → Measured → Option Context
 assigned_context bits m = context_of (greater (Some bits) (length_of m)) (signed_of m)
 
+-- what a register of so many bits holds after the assignment (IEEE 1364-2005, 5.5.3)
 abbrev pub stored : ℕ → Measured → ℕ
 stored bits m = low_value bits (worth_in (assigned_context bits m) m)
 
+-- the write to a signal, if it has a shape
 abbrev pub shape_write : ℕ → Option Shape → ℕ → Measured → List FirstWrite
 shape_write number None at m = []
 shape_write number (Some shape) at m = (record { signal = number; word = at; value = stored shape.bits m }) ∷ []
@@ -39,5 +42,6 @@ abbrev pub entry_write : Option Entry → ℕ → Measured → List FirstWrite
 entry_write (Some (Signal s)) at m = shape_write s.number s.shape at m
 entry_write e at m = []
 
+-- what `name = e` writes to a word, where the names and the turns of loops around it are these
 abbrev pub write_of : Scope → List Turn → Option Entry → ℕ → Expr → List FirstWrite
 write_of names turns entry at e = entry_write entry at (measured names turns e)

@@ -97,6 +97,7 @@ module _ (names : Scope) where
   abbrev pub module_writes : Module → List FirstWrite
   module_writes m = header_writes m.header ++ flat_map item_writes m.items
 
+-- the value that a write gives to this word of this signal, if it is the one written
 abbrev pub write_at : ℕ → ℕ → FirstWrite → Option ℕ
 write_at signal at w = if w.signal == signal && w.word == at then Some w.value else None
 

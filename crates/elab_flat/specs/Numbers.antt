@@ -21,18 +21,22 @@ use Rattle.elab_names.specs.Names.{entry_standing}
 use Rattle.elab_names.specs.Selects.{entry_low}
 use Rattle.elab_names.specs.declared.select.Number as index
 
+-- 0 at 32 bits
 abbrev pub nought : Word
 nought = word 32 0
 
+-- a known value, and 0 for what has none
 abbrev pub word_or_nought : Worth → Word
 word_or_nought (Value w) = w
 word_or_nought Open = nought
 word_or_nought NotConstant = nought
 
+-- without sign, where nothing is known of the sign
 abbrev pub or_false : Option Bool → Bool
 or_false None = false
 or_false (Some s) = s
 
+-- a number of the flat tree from what is known of a constant
 abbrev pub number_from : Place → Bool → Standing → Number
 number_from place is_unsized s = record { place = place; word = word_or_nought s.worth; signed = or_false s.signed; is_unsized = is_unsized }
 
@@ -42,6 +46,7 @@ lacks_size (literal.Decimal d) = true
 lacks_size (literal.Based b) = true
 lacks_size (literal.Sized s b) = false
 
+-- the number that a literal writes, with its size and sign (IEEE 1364-2005, 3.5.1)
 abbrev pub literal_number : Literal → Number
 literal_number l = number_from (literal_start l) (lacks_size l) (literal_standing (literal_constant l))
 
@@ -61,6 +66,7 @@ up_to most (the.Known n) = if int_lt n (pos 0) then 0 else (if int_lt (pos most)
 up_to most the.Open = 0
 up_to most the.NotConstant = 0
 
+-- the number of the signal that a name stands for, and 0 where it is none
 abbrev pub signal_number : Option Entry → ℕ
 signal_number (Some (Signal s)) = s.number
 signal_number e = 0

@@ -21,5 +21,6 @@ ComparisonAgrees = (op : BinaryOp) (s : Bool) (w x y : ℕ) → form_of op ≡ f
 abbrev pub UnaryAgrees : Type 0
 UnaryAgrees = (op : UnaryOp) (a : Word) → is_reduction op ≡ false → unary_word op a ≡ word a.width (unary_value op a.width a.value)
 
+-- both trees take the same unary operators for those that give one bit
 abbrev pub ReductionsAgree : Type 0
 ReductionsAgree = (op : UnaryOp) → is_reduction op ≡ flat.is_reduction op

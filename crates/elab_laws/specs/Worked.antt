@@ -21,6 +21,7 @@ use Rattle.elab_names.specs.Measured.{by_itself, by_form, by_operator, worth_of,
 abbrev pub sized : ℕ → Bool → ℕ → Standing
 sized l s n = standing (Some l) (Some s) (Value (word l n))
 
+-- a plain decimal number: 32 bits, with sign
 abbrev pub plain : ℕ → Measured
 plain n = a.Standing (sized 32 true n)
 
@@ -28,6 +29,7 @@ plain n = a.Standing (sized 32 true n)
 abbrev pub four : Option Entry
 four = Some (Parameter (Some (record { constant = record { word = word 32 4; signed = true }; low = 0 })))
 
+-- worked constants, by the rules on lengths and signs (IEEE 1364-2005, 5.4 and 5.5)
 pub record WorkedConstants : Type 0 where
   -- `4'd15 + 4'd1` has its own four bits
   pub carry : by_itself (by_form (form_of binary.Add) binary.Add (a.Standing (sized 4 false 15)) (a.Standing (sized 4 false 1))) ≡ sized 4 false 0

@@ -25,6 +25,7 @@ cut_to_variable NotConstant = NotConstant
 abbrev pub variable_context : Measured → Option Context
 variable_context m = context_of (greater (Some 32) (length_of m)) (signed_of m)
 
+-- a value in the context of the assignment, cut to the variable's 32 bits
 abbrev pub stored : Measured → Worth
 stored m = cut_to_variable (worth_in (variable_context m) m)
 
@@ -36,6 +37,7 @@ assigned names turns e = stored (measured names turns e)
 abbrev pub with_turn : List Turn → ℕ → Worth → List Turn
 with_turn turns integer value = turns ++ (record { integer = integer; value = value }) ∷ []
 
+-- a known value other than 0
 abbrev pub is_true_worth : Worth → Bool
 is_true_worth (Value w) = is_true w
 is_true_worth Open = false
@@ -45,6 +47,7 @@ is_true_worth NotConstant = false
 abbrev pub head_holds : Scope → List Turn → ℕ → ForHead → Word → Bool
 head_holds names turns integer head v = is_true_worth (worth_of (constant_of names (with_turn turns integer (Value v)) head.condition))
 
+-- a known value, and 0 for what has none
 abbrev pub or_nought : Worth → Word
 or_nought (Value w) = w
 or_nought Open = word 32 0
@@ -59,9 +62,11 @@ unfoldable pub loop_values : (Word → Bool) → (Word → Word) → (most : ℕ
 loop_values holds next zero v = []
 loop_values holds next (suc most) v = if holds v then v ∷ loop_values holds next most (next v) else []
 
+-- the most turns that a loop may have
 abbrev pub MOST_TURNS : ℕ
 MOST_TURNS = 4096
 
+-- the values that the variable takes from its first one on; none where the first has no value
 abbrev pub values_from : Scope → List Turn → ℕ → ForHead → Worth → List Word
 values_from names turns integer head (Value v) = loop_values (head_holds names turns integer head) (head_next names turns integer head) (MOST_TURNS + 1) v
 values_from names turns integer head Open = []
@@ -71,6 +76,7 @@ values_from names turns integer head NotConstant = []
 abbrev pub values_of : Scope → List Turn → ℕ → ForHead → List Word
 values_of names turns integer head = values_from names turns integer head (assigned names turns head.start.value)
 
+-- a loop with more turns than are allowed
 abbrev pub is_long : List Word → Bool
 is_long values = nat_lt MOST_TURNS (length values)
 
@@ -78,6 +84,7 @@ is_long values = nat_lt MOST_TURNS (length values)
 abbrev pub turns_of : List Word → List Word
 turns_of values = if is_long values then [] else values
 
+-- the variable's value in each turn of a loop that is unrolled
 abbrev pub taken_turns : Scope → List Turn → ℕ → ForHead → List Word
 taken_turns names turns integer head = turns_of (values_of names turns integer head)
 

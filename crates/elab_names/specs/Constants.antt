@@ -13,15 +13,19 @@ use Rattle.elab_names.specs.declared.constant.Standing.{Standing}
 use Rattle.elab_names.specs.declared.constant.Worth.{Worth}
 use Rattle.elab_names.specs.declared.constant.Worth.TheVariants.{Value, Open, NotConstant}
 
+-- all bits are 0
 abbrev pub is_zero : Word → Bool
 is_zero w = eqb w.value 0
 
+-- some bit is 1: what counts as true (IEEE 1364-2005, 5.1.9)
 abbrev pub is_true : Word → Bool
 is_true w = not (is_zero w)
 
+-- 1 or 0 at one bit
 abbrev pub flag : Bool → Word
 flag b = word 1 (bit b)
 
+-- the number of digits of a base
 abbrev pub radix : Base → ℕ
 radix base.Binary = 2
 radix base.Octal = 8
@@ -37,6 +41,7 @@ without_size signed (Err f) = None
 abbrev pub sized_to : Bool → ℕ → ℕ → Option Constant
 sized_to signed size n = if nat_lt 0 size then (if nat_lt 128 size then None else Some (record { word = word size (n % 2 ^ size); signed = signed })) else None
 
+-- a number with a size, if both are numbers
 abbrev pub sized : Bool → Result ℕ DigitFault → Result ℕ DigitFault → Option Constant
 sized signed (Ok size) (Ok n) = sized_to signed size n
 sized signed (Ok size) (Err f) = None
@@ -56,6 +61,7 @@ WIDE = 129
 abbrev pub standing : Option ℕ → Option Bool → Worth → Standing
 standing length signed worth = record { length = length; signed = signed; worth = worth }
 
+-- a constant as a part, of which all is known
 abbrev pub constant_standing : Constant → Standing
 constant_standing c = standing (Some c.word.width) (Some c.signed) (Value c.word)
 
@@ -63,6 +69,7 @@ constant_standing c = standing (Some c.word.width) (Some c.signed) (Value c.word
 abbrev pub unknown : Standing
 unknown = standing None None Open
 
+-- a literal as a part; nothing is known of one that writes no number
 abbrev pub literal_standing : Option Constant → Standing
 literal_standing None = unknown
 literal_standing (Some c) = constant_standing c
@@ -78,6 +85,7 @@ abbrev pub IsContext : Option Context → Type 0
 IsContext None = Unit {0}
 IsContext (Some x) = (0 < x.width) × (x.width ≤ 128)
 
+-- a value at the width of the context, extended by its sign; open where there is no context
 abbrev pub context_worth : Option Context → Word → Worth
 context_worth None w = Open
 context_worth (Some x) w = Value (resized_word x.width x.signed w)
@@ -98,6 +106,7 @@ both (Value m) NotConstant go = NotConstant
 both (Value m) Open go = Open
 both (Value m) (Value n) go = go m n
 
+-- what follows from a value, if it is known
 abbrev pub worth_then : Worth → (Word → Worth) → Worth
 worth_then NotConstant go = NotConstant
 worth_then Open go = Open

@@ -14,6 +14,7 @@ use Rattle.elab_names.specs.Constants.{standing, unknown, constant_standing}
 abbrev pub Scope : Type 0
 Scope = List (List ℕ × Entry)
 
+-- what a name stands for; of two entries of one name the first
 abbrev pub find_in : Scope → List ℕ → Option Entry
 find_in [] name = None
 find_in (e ∷ scope) name = if bytes_eq name e.0 then Some e.1 else find_in scope name
@@ -33,10 +34,12 @@ abbrev pub turn_standing : Option Turn → Standing
 turn_standing None = standing (Some 32) (Some true) Open
 turn_standing (Some t) = standing (Some 32) (Some true) t.value
 
+-- a parameter as a part; nothing is known of one without a value
 abbrev pub parameter_standing : Option ParameterEntry → Standing
 parameter_standing None = unknown
 parameter_standing (Some p) = constant_standing p.constant
 
+-- how many bits a signal of a shape has
 abbrev pub shape_bits : Option Shape → Option ℕ
 shape_bits None = None
 shape_bits (Some s) = Some s.bits

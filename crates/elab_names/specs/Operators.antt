@@ -39,11 +39,13 @@ form_of binary.Multiply = form.Arithmetic
 form_of binary.Divide = form.Arithmetic
 form_of binary.Remainder = form.Arithmetic
 
+-- `/` and `%`
 abbrev pub is_division : BinaryOp → Bool
 is_division binary.Divide = true
 is_division binary.Remainder = true
 is_division op = false
 
+-- each bit flipped
 abbrev pub flipped : Word → Word
 flipped w = word1 one.Not w
 
@@ -60,9 +62,11 @@ arithmetic binary.Divide s a b = if s then word2 two.DivS a b else word2 two.Div
 arithmetic binary.Remainder s a b = if s then word2 two.RemS a b else word2 two.RemU a b
 arithmetic op s a b = a
 
+-- whether the first is smaller, both read with or without sign
 abbrev pub less : Bool → Word → Word → Word
 less s a b = if s then word2 two.LtS a b else word2 two.LtU a b
 
+-- one bit that says how two words compare (IEEE 1364-2005, 5.1.7, 5.1.8)
 abbrev pub comparison : BinaryOp → Bool → Word → Word → Word
 comparison binary.Equal s a b = word2 two.Eq a b
 comparison binary.NotEqual s a b = flipped (word2 two.Eq a b)
@@ -76,6 +80,8 @@ comparison op s a b = a
 abbrev pub amount : ℕ → ℕ → Word
 amount w n = if nat_lt n (2 ^ w) then word w n else flipped (word w 0)
 
+-- a word shifted by n places: `>>>` fills with the sign where there is one, the others fill with 0 (IEEE 1364-2005,
+-- 5.1.12)
 abbrev pub shifted : BinaryOp → Bool → Word → ℕ → Word
 shifted binary.ShiftLeft s a n = word2 two.Shl a (amount a.width n)
 shifted binary.ArithmeticShiftLeft s a n = word2 two.Shl a (amount a.width n)
@@ -83,12 +89,14 @@ shifted binary.ShiftRight s a n = word2 two.ShrU a (amount a.width n)
 shifted binary.ArithmeticShiftRight s a n = if s then word2 two.ShrS a (amount a.width n) else word2 two.ShrU a (amount a.width n)
 shifted op s a n = a
 
+-- an operator that gives one bit of its operand: `!` and the reductions
 abbrev pub is_reduction : UnaryOp → Bool
 is_reduction unary.Plus = false
 is_reduction unary.Minus = false
 is_reduction unary.BitNot = false
 is_reduction op = true
 
+-- `+`, `-` and `~` on a word
 abbrev pub unary_word : UnaryOp → Word → Word
 unary_word unary.Minus a = word1 one.Neg a
 unary_word unary.BitNot a = flipped a
@@ -113,25 +121,32 @@ divided op s Open Open = Open
 divided op s (Value m) Open = Open
 divided op s a NotConstant = NotConstant
 
+-- an operator of arithmetic or bit by bit on values that may not be known
 abbrev pub arithmetic_worth : BinaryOp → Bool → Worth → Worth → Worth
 arithmetic_worth op s a b = if is_division op then divided op s a b else both a b (λ m n. Value (arithmetic op s m n))
 
+-- a comparison of values that may not be known
 abbrev pub comparison_worth : BinaryOp → Bool → Worth → Worth → Worth
 comparison_worth op s a b = both a b (λ m n. Value (comparison op s m n))
 
+-- `||` and `&&` on truth values (IEEE 1364-2005, 5.1.9)
 abbrev pub logical : BinaryOp → Bool → Bool → Bool
 logical binary.LogicalOr a b = a || b
 logical op a b = a && b
 
+-- `||` and `&&` on values that may not be known; both operands count
 abbrev pub logical_worth : BinaryOp → Worth → Worth → Worth
 logical_worth op a b = both a b (λ m n. Value (flag (logical op (is_true m) (is_true n))))
 
+-- a shift of values that may not be known; the amount is read without sign
 abbrev pub shifted_worth : BinaryOp → Bool → Worth → Worth → Worth
 shifted_worth op s a b = both a b (λ m n. Value (shifted op s m n.value))
 
+-- `+`, `-` and `~` on a value that may not be known
 abbrev pub unary_worth : UnaryOp → Worth → Worth
 unary_worth op a = worth_then a (λ m. Value (unary_word op m))
 
+-- `!` and the reductions on a value that may not be known
 abbrev pub reduced_worth : UnaryOp → Worth → Worth
 reduced_worth op a = worth_then a (λ m. Value (reduced op m))
 
@@ -139,11 +154,13 @@ reduced_worth op a = worth_then a (λ m. Value (reduced op m))
 abbrev pub branch : Word → Word → Word → Word
 branch c m n = if is_true c then m else n
 
+-- `?:` on values that may not be known; both branches count (IEEE 1364-2005, 5.1.13)
 abbrev pub chosen : Worth → Worth → Worth → Worth
 chosen NotConstant a b = NotConstant
 chosen Open a b = both a b (λ m n. Open)
 chosen (Value c) a b = both a b (λ m n. Value (branch c m n))
 
+-- the sign of a context, and none without one
 abbrev pub sign_of : Option Context → Bool
 sign_of None = false
 sign_of (Some x) = x.signed

@@ -20,6 +20,7 @@ use Rattle.elab_names.specs.Names.{entry_standing}
 abbrev pub FAR : ℕ
 FAR = 1099511627776
 
+-- a number no further from 0 than the furthest range
 abbrev pub nearer : ℤ → ℤ
 nearer z = if int_lt (pos FAR) z then pos FAR else if int_lt z (neg_ℤ (pos FAR)) then neg_ℤ (pos FAR) else z
 
@@ -27,10 +28,12 @@ nearer z = if int_lt (pos FAR) z then pos FAR else if int_lt z (neg_ℤ (pos FAR
 abbrev pub near : Bool → Word → ℤ
 near signed w = if signed then nearer (number true w.width w.value) else (if nat_lt FAR w.value then pos FAR else pos w.value)
 
+-- the number of a word, where its sign is known
 abbrev pub known_number : Option Bool → Word → Number
 known_number None w = the.Open
 known_number (Some signed) w = the.Known (near signed w)
 
+-- the number of a value, where it is known
 abbrev pub number_at : Option Bool → Worth → Number
 number_at signed (Value w) = known_number signed w
 number_at signed Open = the.Open
@@ -54,6 +57,7 @@ part_width high low = if int_lt high low then None else (if int_lt (pos 127) (hi
 abbrev pub indexed_width : ℤ → Option ℕ
 indexed_width n = if int_lt n (pos 1) then None else (if int_lt (pos 64) n then None else Some (unsigned_abs n))
 
+-- the width of `[ high : low ]`, where both ends are known
 abbrev pub part_choice : Number → Number → Option ℕ
 part_choice (the.Known h) (the.Known l) = part_width h l
 part_choice (the.Known h) the.Open = None
@@ -61,11 +65,13 @@ part_choice (the.Known h) the.NotConstant = None
 part_choice the.Open l = None
 part_choice the.NotConstant l = None
 
+-- the width of `+:` and `-:`, where it is known
 abbrev pub width_choice : Number → Option ℕ
 width_choice (the.Known n) = indexed_width n
 width_choice the.Open = None
 width_choice the.NotConstant = None
 
+-- a select has from 1 to 128 bits
 abbrev pub IsLength : ℕ → Type 0
 IsLength w = (0 < w) × (w ≤ 128)
 
@@ -76,6 +82,7 @@ choice_width (choice.Range h l) = part_choice h l
 choice_width (choice.Up base w) = width_choice w
 choice_width (choice.Down base w) = width_choice w
 
+-- a number that isn't constant
 abbrev pub is_varying : Number → Bool
 is_varying (the.Known n) = false
 is_varying the.Open = false
@@ -101,13 +108,16 @@ abbrev pub is_inside : Choice → ℕ → ℕ → ℤ → Bool
 is_inside (choice.Range h l) bits width from = not (int_lt from (pos 0)) && not (int_lt (pos bits -ℤ pos width) from)
 is_inside c bits width from = true
 
+-- the bits of a word from a place on, if the select lies where it may
 abbrev pub bits_worth : Choice → Word → ℕ → ℤ → Worth
 bits_worth c w width from = if is_inside c w.width width from then Value (bits_at w from width) else Open
 
+-- a select's bits, where its lowest bit is known; `low` is the low end of the range
 abbrev pub lowest_worth : Choice → Word → ℕ → ℕ → Option ℤ → Worth
 lowest_worth c w low width None = Open
 lowest_worth c w low width (Some from) = bits_worth c w width (from -ℤ pos low)
 
+-- a select's bits, where its width is known
 abbrev pub width_worth : Choice → Word → ℕ → Option ℕ → Worth
 width_worth c w low None = Open
 width_worth c w low (Some width) = lowest_worth c w low width (lowest c width)
@@ -123,6 +133,7 @@ abbrev pub entry_low : Option Entry → ℕ
 entry_low (Some (Parameter (Some p))) = p.low
 entry_low e = 0
 
+-- the name stands for a memory (IEEE 1364-2005, 4.9)
 abbrev pub is_memory : Option Entry → Bool
 is_memory (Some (Signal s)) = s.memory
 is_memory e = false

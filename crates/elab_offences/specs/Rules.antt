@@ -27,6 +27,7 @@ use Rattle.elab_names.specs.Constants.{literal_constant}
 use Rattle.elab_names.specs.Names.{turn_of}
 use Rattle.elab_names.specs.Selects.{is_memory}
 
+-- an offence at a place, if it is one
 abbrev pub at_if : Bool → Place → Kind → List Offence
 at_if true place kind = at place kind
 at_if false place kind = []
@@ -36,6 +37,7 @@ abbrev pub literal_fault : Place → Option Constant → List Offence
 literal_fault place None = at place VLiteral
 literal_fault place (Some c) = []
 
+-- what a literal offends, told at its start
 abbrev pub literal_offences : Literal → List Offence
 literal_offences l = literal_fault (literal_start l) (literal_constant l)
 
@@ -59,9 +61,11 @@ is_index (choice.Range h l) = false
 is_index (choice.Up base w) = false
 is_index (choice.Down base w) = false
 
+-- a memory that is named as a whole
 abbrev pub memory_offences : Place → Option Entry → List Offence
 memory_offences place entry = at_if (is_memory entry) place VMemory
 
+-- a memory that is named with a select other than an index
 abbrev pub memory_part_offences : Place → Option Entry → Choice → List Offence
 memory_part_offences place entry c = if is_index c then [] else memory_offences place entry
 
@@ -69,10 +73,12 @@ memory_part_offences place entry c = if is_index c then [] else memory_offences 
 abbrev pub word_range : SignalEntry → Option Shape
 word_range s = if s.memory then None else s.shape
 
+-- the range of a parameter: its width, from its low end on
 abbrev pub parameter_range : Option ParameterEntry → Option Shape
 parameter_range None = None
 parameter_range (Some p) = Some (record { bits = p.constant.word.width; low = p.low; words = 0 })
 
+-- the range that a select of a name has to lie in
 abbrev pub range_of : Option Entry → Option Shape
 range_of None = None
 range_of (Some Instance) = None
@@ -80,6 +86,7 @@ range_of (Some (Parameter p)) = parameter_range p
 range_of (Some (Integer n)) = Some (record { bits = 32; low = 0; words = 0 })
 range_of (Some (Signal s)) = word_range s
 
+-- both are known, and the first is less
 abbrev pub is_below : Number → Number → Bool
 is_below (the.Known h) (the.Known l) = int_lt h l
 is_below (the.Known h) the.Open = false
@@ -87,6 +94,7 @@ is_below (the.Known h) the.NotConstant = false
 is_below the.Open l = false
 is_below the.NotConstant l = false
 
+-- a known number that lies outside a known range
 abbrev pub is_outside : Option Shape → Number → Bool
 is_outside None n = false
 is_outside (Some r) (the.Known n) = int_lt n (pos r.low) || not (int_lt n (pos (r.low + r.bits)))
@@ -100,6 +108,7 @@ part_offences place range (choice.Index i) = []
 part_offences place range (choice.Up base w) = []
 part_offences place range (choice.Down base w) = []
 
+-- what a select of a name offends by what the name is and by its ends
 abbrev pub bits_offences : Place → Option Entry → Choice → List Offence
 bits_offences place entry c = memory_part_offences place entry c ++ part_offences place (range_of entry) c
 
@@ -107,6 +116,7 @@ bits_offences place entry c = memory_part_offences place entry c ++ part_offence
 abbrev pub whole_offences : List Turn → Place → Option Entry → List Offence
 whole_offences turns place entry = name_offences turns place entry ++ memory_offences place entry
 
+-- what a select that is read offends: its name, then its ends
 abbrev pub select_offences : List Turn → Place → Option Entry → Choice → List Offence
 select_offences turns place entry c = name_offences turns place entry ++ bits_offences place entry c
 
@@ -133,6 +143,7 @@ abbrev pub wrong_target : Bool → Kind
 wrong_target true = VNotRegister
 wrong_target false = VNotNet
 
+-- a process assigns registers, an assign or an output nets; an input is never assigned
 abbrev pub is_target : Bool → Sort → Bool
 is_target register Reg = register
 is_target register Net = not register
@@ -146,8 +157,10 @@ assigned_offences register place (Some (Parameter p)) = at place (wrong_target r
 assigned_offences register place (Some (Integer n)) = at place (wrong_target register) ++ at place VLoop
 assigned_offences register place (Some (Signal s)) = at_if (not (is_target register s.sort)) place (wrong_target register)
 
+-- what an assignment to a whole name offends
 abbrev pub whole_target_offences : Bool → Place → Option Entry → List Offence
 whole_target_offences register place entry = assigned_offences register place entry ++ memory_offences place entry
 
+-- what an assignment to a select of a name offends
 abbrev pub part_target_offences : Bool → Place → Option Entry → Choice → List Offence
 part_target_offences register place entry c = assigned_offences register place entry ++ bits_offences place entry c
