@@ -10,17 +10,21 @@ use Rattle.flat_tree.specs.Operators.{Form, InContext, Dividing, Comparing, Logi
 use Rattle.operator_terms.specs.declared.flags.UnaryWay.{UnaryWay}
 use Rattle.operator_terms.specs.declared.pairs.Way.{Way}
 
+-- a number of w bits, with each bit turned if so told
 abbrev pub turned_if : Bool → ℕ → ℕ → ℕ
 turned_if true w n = 2 ^ w - 1 - n
 turned_if false w n = n
 
+-- the value of an operation on two words of w bits, which change places if so told
 abbrev pub ordered : Bool → Op2 → ℕ → ℕ → ℕ → ℕ
 ordered true op w a b = value2 op w b a
 ordered false op w a b = value2 op w a b
 
+-- the value of a way of making a binary operator, with operands of w bits
 abbrev pub way_value : Way → ℕ → ℕ → ℕ → ℕ
 way_value x w a b = turned_if x.turned (width2 x.op w) (ordered x.swapped x.op w a b)
 
+-- the value of a way of making a unary operator, with an operand of w bits
 abbrev pub unary_way_value : UnaryWay → ℕ → ℕ → ℕ
 unary_way_value x w a = turned_if x.turned (width1 x.op w) (value1 x.op w a)
 
@@ -45,6 +49,7 @@ abbrev pub looks : Op2 → Bool
 looks two.ShrS = true
 looks op = false
 
+-- whether an operation is a shift
 abbrev pub is_shift : Op2 → Bool
 is_shift two.Shl = true
 is_shift two.ShrU = true

@@ -8,6 +8,7 @@ use Rattle.res_log.specs.Step.{Step}
 abbrev pub step_of : List ChainStep → Entry → Step
 step_of links e = record { derived = e.derived; first = e.first; rest = slice_range links e.from e.to }
 
+-- the steps of a log, in order
 abbrev pub steps_of : List ChainStep → List Entry → List Step
 steps_of links entries = map (step_of links) entries
 

@@ -37,6 +37,7 @@ input arena log id = if derives log id then None else clause_at arena id
 abbrev pub enter : Book → Step → Book
 enter book s id = if s.derived.0 == id then result_of book s else book id
 
+-- the book once the results of all these steps are entered, in order
 abbrev pub enter_all : Book → List Step → Book
 enter_all book [] = book
 enter_all book (s ∷ ss) = enter_all (enter book s) ss
@@ -50,6 +51,7 @@ abbrev pub results_from : Book → List Step → List Clause
 results_from book [] = []
 results_from book (s ∷ ss) = option_to_list (result_of book s) ++ results_from (enter book s) ss
 
+-- the results of all steps of a log, from its inputs on
 abbrev pub results : Clauses → List Step → List Clause
 results arena log = results_from (input arena log) log
 
@@ -97,6 +99,7 @@ has_live_ids arena s =
     is_some (clause_at arena s.derived.0) && is_some (clause_at arena s.first.0)
     && list_all (λ x. is_some (clause_at arena x.clause.0)) s.rest
 
+-- each step of the log names live ids alone
 abbrev pub AreLive : Clauses → List Step → Type 0
 AreLive arena log = (k : ℕ) (d : Step) → k < length log → has_live_ids arena (slice_index_or log k d) ≡ true
 

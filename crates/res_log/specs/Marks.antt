@@ -8,6 +8,7 @@ use Rattle.clause_arena.specs.Clause.{Clause, bool_eq, lit_eq, has}
 abbrev pub Signs : Type 0
 Signs = List (Option Bool)
 
+-- the sign of a variable, or none where it stands in no marked literal
 abbrev pub sign_at : Signs → ℕ → Option Bool
 sign_at m v = slice_index_or m v None
 

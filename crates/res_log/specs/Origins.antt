@@ -20,6 +20,7 @@ is_reached Input = true
 is_reached Later = false
 is_reached Derived = true
 
+-- the clause is derived by an earlier step
 abbrev pub is_derived : Origin → Bool
 is_derived Input = false
 is_derived Later = false

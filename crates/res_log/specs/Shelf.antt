@@ -10,9 +10,11 @@ use Rattle.res_log.specs.Log.{Book, derives, result_of, has_live_ids}
 abbrev pub is_known : List Step → ℕ → ℕ → Bool
 is_known log k id = derives (take k log) id || not (derives log id)
 
+-- the clauses that the arena has at ids known at step k
 abbrev pub shelf : Clauses → List Step → ℕ → Book
 shelf arena log k id = if is_known log k id then clause_at arena id else None
 
+-- the clause of an id, and the empty list where it has none
 abbrev pub lits_at : Clauses → ℕ → Clause
 lits_at arena id = unwrap_or (clause_at arena id) []
 

@@ -11,5 +11,6 @@ line_of text at = count_by (λ b. b == 10) (take at text) + 1
 abbrev pub column_of : List ℕ → ℕ → ℕ
 column_of text at = length (take_while (λ b. not (b == 10)) (reverse (take at text))) + 1
 
+-- the place of the byte at this position
 abbrev pub place_at : List ℕ → ℕ → Place
 place_at text at = record { line = line_of text at; column = column_of text at }

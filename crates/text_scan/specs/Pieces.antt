@@ -9,6 +9,7 @@ use Rattle.text_scan.specs.declared.pieces.TheConstants.{STRAY}
 abbrev pub is_blank : ℕ → Bool
 is_blank b = b == 32 || b == 9 || b == 10 || b == 12 || b == 13
 
+-- whether a byte ends a line: the line feed
 abbrev pub is_line_end : ℕ → Bool
 is_line_end b = b == 10
 
@@ -20,6 +21,7 @@ line_len bytes = unwrap_or (position is_line_end bytes) (length bytes)
 abbrev pub close_of : List ℕ → Option ℕ
 close_of bytes = position (λ pair. pair.0 == 42 && pair.1 == 47) (zip bytes (drop 1 bytes))
 
+-- whether a text begins with these bytes
 abbrev pub begins : List ℕ → List ℕ → Bool
 begins bytes with = starts_with nat_eq bytes with
 
@@ -33,12 +35,15 @@ abbrev pub longest_within : (List ℕ → Option ℕ) → ℕ → List ℕ → O
 longest_within kind_of zero bytes = None
 longest_within kind_of (suc n) bytes = or_shorter (kind_of (take (suc n) bytes)) (suc n) (longest_within kind_of n bytes)
 
+-- the longest token with which a text begins (C99 6.4, paragraph 4)
 abbrev pub longest_of : (List ℕ → Option ℕ) → List ℕ → Option (ℕ × ℕ)
 longest_of kind_of bytes = longest_within kind_of (length bytes) bytes
 
+-- so many bytes that are no token
 abbrev pub skipped : ℕ → Piece
 skipped n = record { kind = None; len = n }
 
+-- a token of a kind, of so many bytes
 abbrev pub token : ℕ → ℕ → Piece
 token kind n = record { kind = Some kind; len = n }
 
@@ -47,6 +52,7 @@ abbrev pub comment : Option ℕ → ℕ → Piece
 comment (Some close) all = skipped (close + 4)
 comment None all = token STRAY all
 
+-- the token that was found, or else one byte that begins none
 abbrev pub token_or_stray : Option (ℕ × ℕ) → Piece
 token_or_stray (Some found) = token found.0 found.1
 token_or_stray None = token STRAY 1

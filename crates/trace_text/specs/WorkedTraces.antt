@@ -18,9 +18,11 @@ use Rattle.joint_ir.specs.declared.program.Var.{Var}
 use Rattle.joint_ir.specs.Types.{int}
 use Rattle.trace_text.specs.Trace.{trace_text}
 
+-- a place that no trace shows
 abbrev here : Place
 here = record { line = 1; column = 1 }
 
+-- `unsigned char`
 abbrev byte : IntType
 byte = record { bits = 8; signed = false; truth = false }
 
@@ -28,9 +30,11 @@ byte = record { bits = 8; signed = false; truth = false }
 abbrev scalar : List ℕ → Role → (bits : ℕ) → Signal
 scalar path role bits = record { path = path; bits = bits; signed = false; low = 0; words = 0; role = role }
 
+-- an object of type `int`, or an array of so many; 0 is for no array
 abbrev object : List ℕ → (length : ℕ) → Var
 object name n = record { name = name; ty = int; length = n; firsts = []; constant = false }
 
+-- a member of the mirror, an unsigned byte
 abbrev member : List ℕ → Member
 member path = record { path = path; place = here; ty = Some byte; length = 0 }
 
@@ -38,9 +42,11 @@ member path = record { path = path; place = here; ty = Some byte; length = 0 }
 abbrev of_main : PropKind → (number line : ℕ) → Prop
 of_main k n line = record { function = codes "main"; kind = k; number = n; line = line }
 
+-- the property of this number in the program's list
 abbrev prop : ℕ → PropId
 prop i = record { 0 = i }
 
+-- the value of a word of a signal, both by their numbers
 abbrev word : (signal index value : ℕ) → Shown
 word signal i n = record { signal = signal; word = i; value = n }
 
@@ -92,6 +98,7 @@ all_kinds =
     ∷ (record { path = codes "m.mem"; bits = 8; signed = false; low = 0; words = 2; role = Register })
     ∷ scalar (codes "m.in") Input 8 ∷ [])
 
+-- four runs, and the trace of each
 pub record WorkedTraces : Type 0 where
   -- an assertion that fails after two edges
   pub counting : trace_text two_edges

@@ -16,6 +16,7 @@ pub data Trail : Type 0 where
 abbrev pub values_of : List Word → List ℕ
 values_of reads = map (λ (a : Word). a.value) reads
 
+-- the widths of words
 abbrev pub widths_of : List Word → List ℕ
 widths_of reads = map (λ (a : Word). a.width) reads
 

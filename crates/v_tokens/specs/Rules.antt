@@ -6,6 +6,7 @@ use Rattle.v_tokens.specs.Kinds.{number_of, MARKS, KEYWORDS}
 use Rattle.v_tokens.specs.declared.kinds.TokenKind.{TokenKind}
 use Rattle.v_tokens.specs.declared.kinds.TokenKind.TheVariants.{Identifier, Decimal, Based}
 
+-- whether a byte is one of those from low up to high
 abbrev pub is_between : ℕ → ℕ → ℕ → Bool
 is_between low high b = nat_le low b && nat_le b high
 
@@ -33,9 +34,11 @@ is_unknown b = b == 120 || b == 88 || b == 122 || b == 90 || b == 63
 abbrev pub is_base_ten : ℕ → Bool
 is_base_ten b = b == 100 || b == 68
 
+-- `h` and `H`
 abbrev pub is_base_sixteen : ℕ → Bool
 is_base_sixteen b = b == 104 || b == 72
 
+-- the letters of all four bases: decimal, hexadecimal, binary and octal (3.5.1)
 abbrev pub is_base : ℕ → Bool
 is_base b = is_base_ten b || is_base_sixteen b || b == 98 || b == 66 || b == 111 || b == 79
 
@@ -80,6 +83,7 @@ is_based (b ∷ bs) = if is_sign b then is_unsigned bs else is_unsigned (b ∷ b
 abbrev pub word_kind : List ℕ → ℕ
 word_kind bytes = unwrap_or (kind_in KEYWORDS bytes) (number_of Identifier)
 
+-- the kind where the rest of a token fits, and else no token
 abbrev pub if_so : Bool → ℕ → Option ℕ
 if_so true kind = Some kind
 if_so false kind = None

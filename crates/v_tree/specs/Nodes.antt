@@ -40,6 +40,7 @@ use Rattle.v_tree.specs.declared.stmt.Target.{Target}
 use Rattle.v_tree.specs.declared.stmt.Target as target
 use Rattle.v_tree.specs.Starts.{literal_start, expr_start, target_start, stmt_start, values_start}
 
+-- a node with nothing inside
 abbrev pub leaf : Place → Trees
 leaf place = one place none
 
@@ -48,10 +49,12 @@ abbrev pub all_trees : {A : Type 0} → (A → Trees) → List A → Trees
 all_trees trees [] = none
 all_trees trees (x ∷ xs) = also (trees x) (all_trees trees xs)
 
+-- the trees of what may be left out
 abbrev pub option_trees : {A : Type 0} → (A → Trees) → Option A → Trees
 option_trees trees None = none
 option_trees trees (Some x) = trees x
 
+-- Expressions: a node has the place of its first token, and holds its operands or parts.
 abbrev mutual
   pub expr_trees : Expr → Trees
   expr_trees (expr.Literal l) = leaf (literal_start l)
@@ -79,6 +82,7 @@ abbrev mutual
   part_trees expr.end_of-Expr = none
   part_trees (expr.more_of-Expr a rest) = also (expr_trees a) (part_trees rest)
 
+-- Targets of assignments: a select holds its indexes, and a concatenation its parts.
 abbrev mutual
   pub target_trees : Target → Trees
   target_trees (target.Name x) = leaf x.place
@@ -89,9 +93,11 @@ abbrev mutual
   target_part_trees target.end_of-Target = none
   target_part_trees (target.more_of-Target t rest) = also (target_trees t) (target_part_trees rest)
 
+-- the head of a loop has no node but those of its three expressions
 abbrev pub head_trees : ForHead → Trees
 head_trees h = also (expr_trees h.start.value) (also (expr_trees h.condition) (expr_trees h.step.value))
 
+-- Statements and case items: a node has the place of its first token.
 abbrev mutual
   pub stmt_trees : Stmt → Trees
   stmt_trees (stmt.Empty place) = leaf place
@@ -116,9 +122,11 @@ abbrev mutual
   case_item_trees stmt.end_of-CaseItem = none
   case_item_trees (stmt.more_of-CaseItem c rest) = also (case_item_tree c) (case_item_trees rest)
 
+-- the nodes of the two bounds of a range
 abbrev pub range_trees : Range → Trees
 range_trees r = also (expr_trees r.high) (expr_trees r.low)
 
+-- the same for the range of a parameter declaration
 abbrev pub parameter_range_trees : ParameterRange → Trees
 parameter_range_trees r = range_trees r.range
 
@@ -126,32 +134,40 @@ parameter_range_trees r = range_trees r.range
 abbrev pub declared_trees : Identifier → Trees
 declared_trees x = leaf x.place
 
+-- a declared name, which holds its value if it has one
 abbrev pub declarator_trees : Declarator → Trees
 declarator_trees d = one d.name.place (option_trees expr_trees d.value)
 
+-- a parameter, which holds its value
 abbrev pub parameter_trees : ParameterAssignment → Trees
 parameter_trees p = one p.name.place (expr_trees p.value)
 
+-- the range and the parameters of a declaration
 abbrev pub parameters_trees : ParameterDeclaration → Trees
 parameters_trees d = also (option_trees parameter_range_trees d.range) (all_trees parameter_trees d.parameters)
 
+-- the range and the names of a port in a header
 abbrev pub port_trees : Port → Trees
 port_trees p = also (option_trees range_trees p.range) (all_trees declarator_trees p.names)
 
+-- the ports that a header declares; a list of names alone has no nodes
 abbrev pub header_trees : Header → Trees
 header_trees header.Absent = none
 header_trees header.Empty = none
 header_trees (header.Names names) = none
 header_trees (header.Ports ports) = all_trees port_trees ports
 
+-- what follows the name of a register: nothing, its value, or the range of a memory
 abbrev pub form_trees : RegisterForm → Trees
 form_trees form.Plain = none
 form_trees (form.Initialized value) = expr_trees value
 form_trees (form.Memory range) = range_trees range
 
+-- the declared name of a register, which holds what follows it
 abbrev pub register_trees : Register → Trees
 register_trees r = one r.name.place (form_trees r.form)
 
+-- both sides of an assignment of `assign`
 abbrev pub net_assignment_trees : NetAssignment → Trees
 net_assignment_trees a = also (target_trees a.target) (expr_trees a.value)
 
@@ -159,17 +175,21 @@ net_assignment_trees a = also (target_trees a.target) (expr_trees a.value)
 abbrev pub ordered_trees : Expr → Trees
 ordered_trees e = one (expr_start e) (expr_trees e)
 
+-- a connection by name, which holds its expression if it has one
 abbrev pub named_trees : NamedConnection → Trees
 named_trees c = one c.place (option_trees expr_trees c.value)
 
+-- the connections of an instance, or the values of the parameters of a module
 abbrev pub connections_trees : Connections → Trees
 connections_trees connections.Absent = none
 connections_trees (connections.Ordered values) = all_trees ordered_trees values
 connections_trees (connections.Named values) = all_trees named_trees values
 
+-- an instance, which holds its connections
 abbrev pub instance_trees : Instance → Trees
 instance_trees i = one i.name.place (connections_trees i.connections)
 
+-- an item: a node at its first token, which holds its parts in the order of the text
 abbrev pub item_trees : Item → Trees
 item_trees (item.Port d) = one d.direction.place (also (option_trees range_trees d.range) (all_trees declared_trees d.names))
 item_trees (item.Net d) = one d.place (also (option_trees range_trees d.range) (all_trees declarator_trees d.nets))
@@ -183,6 +203,7 @@ item_trees (item.Initial place body) = one place (stmt_trees body)
 item_trees (item.Instances d) =
     one d.module.place (also (option_trees connections_trees d.overrides) (all_trees instance_trees d.instances))
 
+-- a module, which holds its parameters, its header and its items
 abbrev pub module_trees : Module → Trees
 module_trees m =
     one m.place (also (all_trees parameters_trees m.parameters) (also (header_trees m.header) (all_trees item_trees m.items)))

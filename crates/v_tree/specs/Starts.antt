@@ -14,11 +14,13 @@ use Rattle.v_tree.specs.declared.stmt.CaseItem as case_item
 use Rattle.v_tree.specs.declared.stmt.Target.{Target}
 use Rattle.v_tree.specs.declared.stmt.Target as target
 
+-- the first token of a literal; a size comes before its base
 abbrev pub literal_start : Literal → Place
 literal_start (literal.Decimal number) = number.place
 literal_start (literal.Based number) = number.place
 literal_start (literal.Sized size number) = size.place
 
+-- the first token of an expression, which is that of its leftmost operand
 abbrev pub expr_start : Expr → Place
 expr_start (expr.Literal l) = literal_start l
 expr_start (expr.Name x) = x.place
@@ -32,11 +34,13 @@ expr_start (expr.Replication' place _ count _ parts) = place
 expr_start (expr.Signed' place _ operand) = place
 expr_start (expr.Unsigned' place _ operand) = place
 
+-- the first token of a target of assignments
 abbrev pub target_start : Target → Place
 target_start (target.Name x) = x.place
 target_start (target.Select x selection) = x.place
 target_start (target.Concatenation' place _ parts) = place
 
+-- the first token of a statement
 abbrev pub stmt_start : Stmt → Place
 stmt_start (stmt.Empty place) = place
 stmt_start (stmt.Block' place label _ body) = place
@@ -51,10 +55,12 @@ abbrev pub values_start : List Expr → Place → Place
 values_start [] after = after
 values_start (value ∷ values) after = expr_start value
 
+-- the first token of a case item
 abbrev pub case_item_start : CaseItem → Place
 case_item_start (case_item.Values' values _ (stmt.more_of-Stmt body _)) = values_start values (stmt_start body)
 case_item_start (case_item.Default' place _ body) = place
 
+-- the first token of an item
 abbrev pub item_start : Item → Place
 item_start (item.Port d) = d.direction.place
 item_start (item.Net d) = d.place

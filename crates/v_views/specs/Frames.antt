@@ -15,6 +15,7 @@ pub record Process (E : Type 0) : Type 0 where
   pub body : Stmt E
   pub first : ℕ
 
+-- a view with no update waiting
 abbrev pub at_rest : View → State
 at_rest v = record { view = v; pending = [] }
 
@@ -23,9 +24,11 @@ abbrev pub updated : State → View
 updated s = written s.pending s.view
 
 module _ {E : Type 0} (l : Language E) where
+  -- whether a process reads a bit anywhere
   abbrev pub reads_bit : Process E → Spot → Bool
   reads_bit p x = stmt_reads l p.body x
 
+  -- whether it reads a bit where it hasn't assigned that bit on every path before
   abbrev pub reads_outside : Process E → Spot → Bool
   reads_outside p x = outside l p.body x
 
@@ -33,6 +36,7 @@ module _ {E : Type 0} (l : Language E) where
   abbrev pub sets : Process E → Spot → Bool
   sets p x = assigns l Blocking p.body x
 
+  -- by a blocking assignment on every path
   abbrev pub sets_certain : Process E → Spot → Bool
   sets_certain p x = certain l p.body x
 
@@ -41,9 +45,11 @@ module _ {E : Type 0} (l : Language E) where
   writes_bit p x = assigns l Blocking p.body x || assigns l Nonblocking p.body x
 
   module _ (u : ℕ → ℕ) where
+    -- what one run of a process makes of a state
     abbrev pub does : Process E → State → State
     does p s = run l u p.body p.first s
 
+    -- what processes make of a state, one after the other
     abbrev pub does_all : List (Process E) → State → State
     does_all [] s = s
     does_all (p ∷ ps) s = does_all ps (does p s)

@@ -20,6 +20,7 @@ use Rattle.v_views.specs.Run.{selected, hits, case_length, case_signed}
 abbrev pub blank : View
 blank x = false
 
+-- the number 0 for each site
 abbrev pub no_sites : ℕ → ℕ
 no_sites k = 0
 
@@ -37,6 +38,7 @@ module _ {E : Type 0} (l : Language E) where
   is_sure (selection.Up i width) = own_fixed l i
   is_sure (selection.Down i width) = own_fixed l i
 
+  -- whether a bit is among the places of a selection, where these are the same in every view
   abbrev pub is_selected : ℕ → Selection E → Spot → Bool
   is_selected g s x = is_among (selected l no_sites g s blank 0) x
 
@@ -56,6 +58,7 @@ module _ {E : Type 0} (l : Language E) where
   part_reads (selection.Up i width) x = l.reads i x
   part_reads (selection.Down i width) x = l.reads i x
 
+  -- the bits that a target assigns for certain
   abbrev mutual
     pub target_certain : Target E → Spot → Bool
     target_certain (target.Signal p g s) x = certain_part g s x
@@ -65,6 +68,7 @@ module _ {E : Type 0} (l : Language E) where
     parts_certain target.end_of-Target x = false
     parts_certain (target.more_of-Target t rest) x = target_certain t x || parts_certain rest x
 
+  -- the bits that a target may assign
   abbrev mutual
     pub target_assigns : Target E → Spot → Bool
     target_assigns (target.Signal p g s) x = part_assigns g s x
@@ -74,6 +78,7 @@ module _ {E : Type 0} (l : Language E) where
     parts_assign target.end_of-Target x = false
     parts_assign (target.more_of-Target t rest) x = target_assigns t x || parts_assign rest x
 
+  -- the bits that the indexes in a target read
   abbrev mutual
     pub target_reads : Target E → Spot → Bool
     target_reads (target.Signal p g s) x = part_reads s x
@@ -83,24 +88,29 @@ module _ {E : Type 0} (l : Language E) where
     parts_read target.end_of-Target x = false
     parts_read (target.more_of-Target t rest) x = target_reads t x || parts_read rest x
 
+  -- the bits that the values of a case item read
   abbrev pub patterns_read : List (Pattern E) → Spot → Bool
   patterns_read [] x = false
   patterns_read (p ∷ ps) x = l.reads p.value x || patterns_read ps x
 
+  -- whether all values of a case item are constant, at the width and sign of the case
   abbrev pub patterns_fixed : ℕ → Bool → List (Pattern E) → Bool
   patterns_fixed w sign [] = true
   patterns_fixed w sign (p ∷ ps) = l.fixed p.value w sign && patterns_fixed w sign ps
 
+  -- the bits that the values of all items of a case read
   abbrev pub items_read : {m : _} → stmt.Row_of-CaseItem E m → Spot → Bool
   items_read stmt.end_of-CaseItem x = false
   items_read (stmt.more_of-CaseItem (item.Values' ps _ a) rest) x = patterns_read ps x || items_read rest x
   items_read (stmt.more_of-CaseItem (item.Default' p _ a) rest) x = items_read rest x
 
+  -- whether the values of all items of a case are constant
   abbrev pub items_fixed : {m : _} → ℕ → Bool → stmt.Row_of-CaseItem E m → Bool
   items_fixed w sign stmt.end_of-CaseItem = true
   items_fixed w sign (stmt.more_of-CaseItem (item.Values' ps _ a) rest) = patterns_fixed w sign ps && items_fixed w sign rest
   items_fixed w sign (stmt.more_of-CaseItem (item.Default' p _ a) rest) = items_fixed w sign rest
 
+  -- whether one of the items of a case is its default
   abbrev pub has_default : {m : _} → stmt.Row_of-CaseItem E m → Bool
   has_default stmt.end_of-CaseItem = false
   has_default (stmt.more_of-CaseItem (item.Values' ps _ a) rest) = has_default rest
@@ -178,6 +188,7 @@ module _ {E : Type 0} (l : Language E) where
     bodies_read (stmt.more_of-CaseItem (item.Values' ps _ (stmt.more_of-Stmt a _)) rest) x = stmt_reads a x || bodies_read rest x
     bodies_read (stmt.more_of-CaseItem (item.Default' p _ (stmt.more_of-Stmt a _)) rest) x = stmt_reads a x || bodies_read rest x
 
+  -- whether two assignments are of one kind: both `=`, or both `<=`
   abbrev pub is_kind : AssignmentKind → AssignmentKind → Bool
   is_kind Blocking Blocking = true
   is_kind Blocking Nonblocking = false

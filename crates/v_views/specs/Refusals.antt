@@ -10,6 +10,7 @@ use Rattle.v_views.specs.Language.{Language}
 use Rattle.v_views.specs.Names.{names}
 use Rattle.v_views.specs.Frames.{Process, reads_bit, reads_outside, sets, sets_certain}
 
+-- A design: its expressions and shapes, the sort of each signal, its drivers, and its clocked processes.
 pub record Design (E : Type 0) : Type 0 where
   pub language : Language E
   pub sort : ℕ → Sort
@@ -17,6 +18,7 @@ pub record Design (E : Type 0) : Type 0 where
   pub clocked : List (Process E)
 
 module _ {E : Type 0} (m : Design E) where
+  -- the signal has this bit
   abbrev pub IsBit : Spot → Type 0
   IsBit x = is_bit_of (m.language.shape x.signal) x.signal x ≡ true
 
@@ -24,9 +26,11 @@ module _ {E : Type 0} (m : Design E) where
   abbrev pub IsView : View → Type 0
   IsView v = (x : Spot) → (IsBit x → ⊥) → v x ≡ false
 
+  -- whether a process assigns a name by `=` or by `<=`
   abbrev pub names_by_any : Process E → ℕ → Bool
   names_by_any p g = names m.language Blocking p.body g || names m.language Nonblocking p.body g
 
+  -- a driver doesn't assign this name by `=`
   abbrev pub LeavesName : ℕ → Process E → Type 0
   LeavesName g d = names m.language Blocking d.body g ≡ false
 
@@ -38,6 +42,7 @@ module _ {E : Type 0} (m : Design E) where
   abbrev pub HasSort : Process E → Type 0
   HasSort d = (g : ℕ) → names m.language Blocking d.body g ≡ true → ((d.procedural ≡ true) × (m.sort g ≡ Reg)) ⊎ ((d.procedural ≡ false) × (m.sort g ≡ Net))
 
+  -- each driver assigns what its sort may
   abbrev pub HaveSorts : Type 0
   HaveSorts = All HasSort m.drivers
 
@@ -45,6 +50,7 @@ module _ {E : Type 0} (m : Design E) where
   abbrev pub ShareNoWire : Process E → Process E → Type 0
   ShareNoWire c d = (x : Spot) → m.sort x.signal ≡ Net → sets m.language c x ≡ true → sets m.language d x ≡ true → ⊥
 
+  -- no bit of a wire has two drivers
   abbrev pub OneDriver : Type 0
   OneDriver = AllPairs ShareNoWire m.drivers
 
@@ -52,6 +58,7 @@ module _ {E : Type 0} (m : Design E) where
   abbrev pub ShareNoName : Process E → Process E → Type 0
   ShareNoName c d = c.procedural ≡ true → d.procedural ≡ true → (g : ℕ) → names_by_any c g ≡ true → names_by_any d g ≡ true → ⊥
 
+  -- the same of each two of these processes
   abbrev pub OneProcess : List (Process E) → Type 0
   OneProcess ps = AllPairs ShareNoName ps
 
@@ -59,6 +66,7 @@ module _ {E : Type 0} (m : Design E) where
   abbrev pub OtherProcess : Type 0
   OtherProcess = All (λ d. d.procedural ≡ true → All (λ p. (g : ℕ) → names_by_any d g ≡ true → names_by_any p g ≡ true → ⊥) m.clocked) m.drivers
 
+  -- clocked processes assign variables alone (9.2)
   abbrev pub ClockedSorts : Type 0
   ClockedSorts = All (λ p. (g : ℕ) → names_by_any p g ≡ true → m.sort g ≡ Reg) m.clocked
 
@@ -70,6 +78,7 @@ module _ {E : Type 0} (m : Design E) where
   abbrev pub HasNoLatch : Process E → Type 0
   HasNoLatch d = d.procedural ≡ true → (x : Spot) → IsBit x → names m.language Blocking d.body x.signal ≡ true → sets_certain m.language d x ≡ true
 
+  -- no combinational process holds a latch
   abbrev pub NoLatch : Type 0
   NoLatch = All HasNoLatch m.drivers
 

@@ -14,10 +14,12 @@ use Rattle.v_views.specs.declared.CaseItem as item
 use Rattle.v_views.specs.Spots.{Spot, View, bit_of, BitWrite, written, spread, range_at, bits_at, word_at}
 use Rattle.v_views.specs.Language.{Language, own, own_sites, index}
 
+-- whether two truths are the same
 abbrev pub eq_bool : Bool → Bool → Bool
 eq_bool true b = b
 eq_bool false b = not b
 
+-- a view, and the updates of nonblocking assignments that wait, in the order of the assignments (9.2.2)
 pub record State : Type 0 where
   pub view : View
   pub pending : List BitWrite
@@ -41,6 +43,7 @@ module _ {E : Type 0} (l : Language E) where
   selection_sites (selection.Up i width) = own_sites l i
   selection_sites (selection.Down i width) = own_sites l i
 
+  -- how many sites the indexes in a target have
   abbrev mutual
     pub target_sites : Target E → ℕ
     target_sites (target.Signal p g s) = selection_sites s
@@ -55,15 +58,18 @@ module _ {E : Type 0} (l : Language E) where
   longest w [] = w
   longest w (p ∷ ps) = longest (max w (l.length p.value)) ps
 
+  -- whether values are all signed, and what stands before them too
   abbrev pub all_signed : Bool → List (Pattern E) → Bool
   all_signed s [] = s
   all_signed s (p ∷ ps) = all_signed (s && l.signed p.value) ps
 
+  -- the greatest of a length and those of all values of a case (9.5)
   abbrev pub case_length : {m : _} → ℕ → stmt.Row_of-CaseItem E m → ℕ
   case_length w stmt.end_of-CaseItem = w
   case_length w (stmt.more_of-CaseItem (item.Values' ps _ a) rest) = case_length (longest w ps) rest
   case_length w (stmt.more_of-CaseItem (item.Default' p _ a) rest) = case_length w rest
 
+  -- whether all values of a case are signed, and the expression too
   abbrev pub case_signed : {m : _} → Bool → stmt.Row_of-CaseItem E m → Bool
   case_signed s stmt.end_of-CaseItem = s
   case_signed s (stmt.more_of-CaseItem (item.Values' ps _ a) rest) = case_signed (all_signed s ps) rest
@@ -77,6 +83,7 @@ module _ {E : Type 0} (l : Language E) where
   selection_length g (selection.Up i width) = width
   selection_length g (selection.Down i width) = width
 
+  -- the length of a target; that of a concatenation is the sum of its parts (5.1.14)
   abbrev mutual
     pub target_length : Target E → ℕ
     target_length (target.Signal p g s) = selection_length g s
@@ -90,6 +97,7 @@ module _ {E : Type 0} (l : Language E) where
   abbrev pub assignment_length : Target E → E → ℕ
   assignment_length t e = max (target_length t) (l.length e)
 
+  -- how many sites the values of a case item have at a width
   abbrev pub pattern_sites : ℕ → List (Pattern E) → ℕ
   pattern_sites w [] = 0
   pattern_sites w (p ∷ ps) = l.sites p.value w + pattern_sites w ps
@@ -150,6 +158,7 @@ module _ {E : Type 0} (l : Language E) where
     hits w sign n [] v k = false
     hits w sign n (p ∷ ps) v k = matches w p.loose.value n (l.value p.value v u w sign k) || hits w sign n ps v (k + l.sites p.value w)
 
+    -- what a statement makes of a state; the sites of the statement have numbers from `k` on
     abbrev mutual
       pub run : Stmt E → ℕ → State → State
       run (stmt.Block' p _ body) k s = run_row body k s

@@ -21,6 +21,7 @@ gates1 RedAnd w = 3 * w
 gates1 RedOr w = 3 * w
 gates1 RedXor w = 3 * w
 
+-- the gates of an operation on two words, by the width that both have
 abbrev pub gates2 : Op2 → ℕ → ℕ
 gates2 And w = w
 gates2 Or w = w
@@ -39,6 +40,7 @@ gates2 Eq w = 4 * w
 gates2 LtU w = 10 * w
 gates2 LtS w = 10 * w
 
+-- the gates of a node, by the widths of its parts; what only names, copies or moves bits has none
 abbrev pub node_gates : Graph → TermNode → ℕ
 node_gates g (Const a) = 0
 node_gates g (Var x) = 0
@@ -53,6 +55,7 @@ node_gates g (Join a b) = 0
 abbrev pub term_gates : Graph → ℕ
 term_gates g = sum_by (λ (x : Term). node_gates g x.node) g.terms
 
+-- the gates of what a step does, by the width of the variable that is free or of the term that is tested
 abbrev pub act_gates : Graph → Act → ℕ
 act_gates g (Free x) = width_of_var g x.0
 act_gates g (Set x t) = 0

@@ -12,6 +12,7 @@ pub record Graph : Type 0 where
   pub vars : List ℕ
   pub terms : List Term
 
+-- the graph of these variables, by their widths, and these terms
 abbrev pub graph : List ℕ → List Term → Graph
 graph vars terms = record { vars = vars; terms = terms }
 
@@ -67,6 +68,7 @@ pub record IsGraph (g : Graph) : Type 0 where
 abbrev pub with_var : Graph → ℕ → Graph
 with_var g w = graph (g.vars ++ w ∷ []) g.terms
 
+-- a graph with one term more, of the width that its node has by its parts
 abbrev pub with_term : Graph → TermNode → Graph
 with_term g node = graph g.vars (g.terms ++ (record { node = node; width = node_width g node }) ∷ [])
 
@@ -97,6 +99,8 @@ parts (Join a b) = a.0 ∷ b.0 ∷ []
 abbrev pub places : List TermId → List ℕ
 places ids = map (λ (t : TermId). t.0) ids
 
+-- whether a node is no variable: a copy of a variable is a term that is there, and a copy of another node may be a new
+-- one
 abbrev pub is_made : TermNode → Bool
 is_made (Var x) = false
 is_made _ = true

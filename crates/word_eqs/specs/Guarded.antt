@@ -19,11 +19,13 @@ pub data Walk : Type 0 where
   Passes : (reads : List ℕ) → Walk
   Stops : (reads : List ℕ) (stop : Stop) → Walk
 
+-- one walk after another: once the list is ended, nothing is read or ended any more
 abbrev pub walk_then : Walk → Walk → Walk
 walk_then (Stops r e) w = Stops r e
 walk_then (Passes r) (Passes r') = Passes (r ++ r')
 walk_then (Passes r) (Stops r' e) = Stops (r ++ r') e
 
+-- what a step does where its guard is 1: it reads a choice, sets a variable, or ends the list if its term is 0
 abbrev pub act_walk : Values → Act → Walk
 act_walk v (Free x) = Passes ((v.var x.0).value ∷ [])
 act_walk v (Set x t) = Passes []
@@ -34,6 +36,7 @@ act_walk v (Prop p t) = at_zero (v.term t.0).value (Stops [] (AtProp p)) (Passes
 abbrev pub step_walk : Values → Step → Walk
 step_walk v s = at_zero (v.term s.guard.0).value (Passes []) (act_walk v s.act)
 
+-- what the steps of a list do, in order
 abbrev pub walk : Values → List Step → Walk
 walk v [] = Passes []
 walk v (s ∷ list) = walk_then (step_walk v s) (walk v list)
@@ -43,6 +46,7 @@ abbrev pub choices_read : Walk → List ℕ
 choices_read (Passes reads) = reads
 choices_read (Stops reads stop) = reads
 
+-- the property p ends the list: it is 0 where its guard is 1, and nothing before it has ended the list
 abbrev pub Breaks : Values → List Step → ℕ → Type 0
 Breaks v list p = (reads : List ℕ) × (walk v list ≡ Stops reads (AtProp p))
 
@@ -68,6 +72,7 @@ gives x (Set y t) = nat_eq x y.0
 gives x (Cut t) = false
 gives x (Prop p t) = false
 
+-- how many steps of a list give a variable its word
 abbrev pub givers : ℕ → List Step → ℕ
 givers x list = count_by (λ (s : Step). gives x s.act) list
 
@@ -90,6 +95,7 @@ FitsAct g (Set x t) = (x.0 < length g.vars) × (t.0 < length g.terms) × (width_
 FitsAct g (Cut t) = t.0 < length g.terms
 FitsAct g (Prop p t) = t.0 < length g.terms
 
+-- the guard of a step is a term of one bit, and what the step does fits
 pub record FitsStep (g : Graph) (s : Step) : Type 0 where
   pub guard : s.guard.0 < length g.terms
   pub bit : width_in g s.guard.0 ≡ 1

@@ -24,6 +24,7 @@ pub record AreCopies (new from : Graph) (ids : List ℕ) (k : ℕ) : Type 0 wher
 abbrev pub moved : List ℕ → TermId → TermId
 moved ids t = record { 0 = slice_index ids t.0 }
 
+-- the same node, with the terms that stand in the list for its parts
 abbrev pub moved_node : List ℕ → TermNode → TermNode
 moved_node ids (Const a) = Const a
 moved_node ids (Var x) = Var x

@@ -28,6 +28,7 @@ node_word v (Join a b) = joined (v.term a.0) (v.term b.0)
 pub record AreValues (v : Values) (terms : List Term) : Type 0 where
   pub at : (k : ℕ) (x : Term) → slice_get terms k ≡ Some x → v.term k ≡ node_word v x.node
 
+-- the word is w bits wide, and its value fits in w bits
 pub record IsWordOf (w : ℕ) (a : Word) : Type 0 where
   pub width : a.width ≡ w
   pub below : a.value < 2 ^ w
@@ -41,6 +42,7 @@ pub record Respects (v : Values) (g : Graph) : Type 0 where
   pub vars : FitsVars v.var g
   pub terms : AreValues v g.terms
 
+-- the word at a place of the list, and a word of no bits past its end
 abbrev pub word_at : List Word → ℕ → Word
 word_at words k = slice_index_or words k (word 0 0)
 
