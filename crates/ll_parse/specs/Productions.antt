@@ -22,6 +22,7 @@ n ⟶ body = record { head = n; body = body; not_before = NO_KIND }
 abbrev pub nothing_but_before : ℕ → ℕ → Production
 nothing_but_before n k = record { head = n; body = []; not_before = k }
 
+-- a symbol before others, if it is kept
 abbrev keep : Bool → ℕ → List ℕ → List ℕ
 keep true s ss = s ∷ ss
 keep false s ss = ss
@@ -38,6 +39,7 @@ productions_from t first p (suc n) =
     record { head = (grammar_of t).head p; body = without_actions first ((grammar_of t).body p); not_before = (grammar_of t).not_before p }
     ∷ productions_from t first (suc p) n
 
+-- whether a body has no symbols
 abbrev is_empty : List ℕ → Bool
 is_empty [] = true
 is_empty (s ∷ ss) = false

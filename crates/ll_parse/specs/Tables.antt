@@ -18,6 +18,7 @@ pub record Lists : Type 0 where
   pub nullable : List Bool
   pub per_token : ℕ
 
+-- what a table of the code holds
 abbrev pub lists_of : Table → Lists
 lists_of t = record {
   start = t.start;

@@ -17,6 +17,7 @@ is_among vs v = list_any (λ w. v == w) vs
 abbrev pub is_over : List ℕ → Clause → Bool
 is_over vs c = list_all (λ l. is_among vs l.var) c
 
+-- such a clause, and no tautology
 abbrev pub is_plain_over : List ℕ → Clause → Bool
 is_plain_over vs c = is_over vs c && not (is_tautology c)
 

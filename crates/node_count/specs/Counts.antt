@@ -25,6 +25,7 @@ nodes_of ws (suc a) = (weave_of ws a).nodes
 abbrev pub spare_of : List ℕ → ℕ → ℕ
 spare_of spare s = cond (nat_lt s 256) 0 (slice_index spare (s - 256))
 
+-- the sum of this over the symbols of a body
 abbrev pub spares_of : List ℕ → List ℕ → ℕ
 spares_of spare [] = 0
 spares_of spare (s ∷ ss) = spare_of spare s + spares_of spare ss
@@ -33,6 +34,7 @@ spares_of spare (s ∷ ss) = spare_of spare s + spares_of spare ss
 abbrev pub owed : ℕ → ℕ
 owed s = cond (nat_lt s 256) 1 3
 
+-- the sum of this over the symbols of a body
 abbrev pub owed_of : List ℕ → ℕ
 owed_of [] = 0
 owed_of (s ∷ ss) = owed s + owed_of ss
@@ -42,6 +44,7 @@ abbrev pub is_production_few : Lists → List ℕ → List Weave → List ℕ �
 is_production_few t marks ws spare p =
     nat_le (nodes_of ws (slice_index marks p) + spares_of spare (body_of t p) + 3) (spare_of spare (slice_index t.heads p) + owed_of (body_of t p))
 
+-- The test: the start symbol has at most 4 to spare, and each production keeps to what its head has.
 abbrev pub are_few : Lists → List ℕ → List Weave → List ℕ → Bool
 are_few t marks ws spare = nat_lt 255 t.start && nat_le (spare_of spare t.start) 4 && all_below (length t.heads) (is_production_few t marks ws spare)
 

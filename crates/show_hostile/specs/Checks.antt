@@ -29,6 +29,7 @@ checks first (suc n) = check_of first ∷ checks (suc first) n
 abbrev pub call_stmt : TStmt
 call_stmt = stmt_of (Call (call_of (number_of 1)))
 
+-- n assertions and then a call of `f`
 abbrev pub asserting_body : ℕ → List TStmt
 asserting_body n = assertions 3 n ++ (call_stmt ∷ [])
 
@@ -36,6 +37,7 @@ asserting_body n = assertions 3 n ++ (call_stmt ∷ [])
 abbrev pub twice_of : TStmt
 twice_of = stmt_of (Block (call_stmt ∷ call_stmt ∷ []))
 
+-- `main` with n assertions and a call of `f`, which calls itself twice
 abbrev pub asserting_of : ℕ → CProgram
 asserting_of n = record {
   functions = main_of (stmt_of (Block (asserting_body n))) ∷ f_of twice_of ∷ [];

@@ -32,18 +32,23 @@ array = var_of (116 ∷ []) 64
 abbrev pub e_name : List ℕ
 e_name = 101 ∷ []
 
+-- the name of the function that is never called
 abbrev pub g_name : List ℕ
 g_name = 103 ∷ []
 
+-- a function without parameters and without result
 abbrev pub void_of : (name : List ℕ) → TStmt → Function
 void_of name body = record { name = name; result = None; first = 0; params = 0; body = Some body }
 
+-- `main` with m calls of `e`, which is empty, and `g` with n arrays
 abbrev pub idle_functions : (arrays calls : ℕ) → List Function
 idle_functions n m = main_of (stmt_of (Block (copies m empty_call))) ∷ void_of e_name (stmt_of (Block [])) ∷ void_of g_name (stmt_of (Block (declares 0 n))) ∷ []
 
+-- for each function, that its activations stay within their limit
 abbrev pub idle_properties : List Prop
 idle_properties = property_of main_name kind.Recursion ∷ property_of e_name kind.Recursion ∷ property_of g_name kind.Recursion ∷ []
 
+-- the program with n arrays in `g` and m calls of `e`
 abbrev pub idle_of : (arrays calls : ℕ) → CProgram
 idle_of n m = record {
   functions = idle_functions n m;

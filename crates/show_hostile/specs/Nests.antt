@@ -25,15 +25,19 @@ use Rattle.joint_ir.specs.WellFormed.{Scope, IsProp, FitsAs, FitsStmt, declared_
 abbrev pub here : Place
 here = record { line = 1; column = 1 }
 
+-- an expression of type `int`
 abbrev pub expr_of : TNode → TExpr
 expr_of node = record { ty = int; place = here; node = node }
 
+-- the constant n
 abbrev pub number_of : ℕ → TExpr
 number_of n = expr_of (Const (pos n))
 
+-- a statement by its node
 abbrev pub stmt_of : SNode → TStmt
 stmt_of node = record { place = here; node = node }
 
+-- the property of number i in the program's list
 abbrev pub prop : ℕ → PropId
 prop i = record { 0 = i }
 
@@ -65,24 +69,31 @@ IsNumber e = (k : Scope) → FitsAs k int e
 abbrev pub main_name : List ℕ
 main_name = 109 ∷ 97 ∷ 105 ∷ 110 ∷ []
 
+-- the name `f`
 abbrev pub f_name : List ℕ
 f_name = 102 ∷ []
 
+-- `int main(void)` with this body
 abbrev pub main_of : TStmt → Function
 main_of body = record { name = main_name; result = Some int; first = 0; params = 0; body = Some body }
 
+-- `int f(int x)` with this body, where `x` is the local 0
 abbrev pub f_of : TStmt → Function
 f_of body = record { name = f_name; result = Some int; first = 0; params = 1; body = Some body }
 
+-- an object of type `int`, or an array of so many; 0 is for no array
 abbrev pub var_of : (name : List ℕ) → (length : ℕ) → Var
 var_of name n = record { name = name; ty = int; length = n; firsts = []; constant = false }
 
+-- the first property of a kind in a function
 abbrev pub property_of : (function : List ℕ) → PropKind → Prop
 property_of name k = record { function = name; kind = k; number = 1; line = 1 }
 
+-- the activations of `main` and of `f` stay within their limits, and so do the turns of loops in `f`
 abbrev pub properties_of : List Prop
 properties_of = property_of main_name kind.Recursion ∷ property_of f_name kind.Recursion ∷ property_of f_name kind.Unwind ∷ []
 
+-- `int main(void) { f(1); }` and `int f(int x)` with this body
 abbrev pub program_of : TStmt → CProgram
 program_of body = record {
   functions = main_of (stmt_of (Call (call_of (number_of 1)))) ∷ f_of body ∷ [];

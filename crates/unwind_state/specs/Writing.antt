@@ -24,6 +24,7 @@ use Rattle.unwind_state.specs.Guards.{Adds, bit_at}
 use Rattle.unwind_state.specs.Images.{Image, words, words_at, look, IsState, IsSettled}
 use Rattle.unwind_state.specs.Unwinding.{Changes}
 
+-- a term with its width
 abbrev pub sized : TermId → ℕ → SizedTerm
 sized t w = record { term = t; width = w }
 

@@ -20,6 +20,7 @@ action_act x (Action.Declare a) i st = declare_act a st
 action_act x (Action.Connect a) i st = connect_act a st
 action_act x (Action.Module a) i st = module_act a st
 
+-- one step: the action of its number, with so many tokens before it
 abbrev pub act : Lexemes → Step → Values → Option Values
 act x s st = action_act x (action_of s.action) s.token st
 

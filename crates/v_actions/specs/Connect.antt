@@ -9,6 +9,8 @@ use Rattle.v_stack.specs.Values.{Values, with_connections, with_expr, with_expr_
 use Rattle.v_tree.specs.declared.item.Connections.TheVariants as Connections
 use Rattle.v_tree.specs.declared.item.Event.TheVariants as Event
 
+-- What an action for connections, continuous assignments and events makes of the stack (IEEE 1364-2005, 12.3, 6.1 and
+-- 9.7), and none where its parts don't lie on top.
 abbrev pub connect_act : ConnectAction → Values → Option Values
 connect_act action.Ordered st = with_expr st (λ value st. Some (Value.Connect (ConnectValue.Ordered value) ∷ st))
 connect_act action.NoOrdered st = Some (Value.Connect (ConnectValue.OrderedValues []) ∷ st)

@@ -10,6 +10,8 @@ use Rattle.v_stack.specs.Values.{Values, with_declarator, with_declarators, with
 use Rattle.v_tree.specs.declared.item.NetKind.TheVariants as NetKind
 use Rattle.v_tree.specs.declared.item.RegisterForm.TheVariants as RegisterForm
 
+-- What an action for parts of declarations makes of the stack (IEEE 1364-2005, clause 4), and none where its parts
+-- don't lie on top.
 abbrev pub declare_act : DeclareAction → Values → Option Values
 declare_act action.Range st =
     with_expr st (λ low st. with_expr st (λ high st. with_place st (λ place st.

@@ -9,6 +9,8 @@ use Rattle.v_tree.specs.declared.expr.Expr.TheVariants as Expr
 use Rattle.v_tree.specs.declared.expr.Literal.TheVariants as Literal
 use Rattle.v_tree.specs.declared.expr.Selection.TheVariants as Selection
 
+-- What an action for expressions and selects makes of the stack (IEEE 1364-2005, clause 5), and none where its parts
+-- don't lie on top.
 abbrev pub expr_act : ExprAction → Values → Option Values
 expr_act action.DecimalLiteral st =
     with_decimal st (λ number st.

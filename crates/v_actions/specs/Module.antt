@@ -9,6 +9,8 @@ use Rattle.v_stack.specs.Values.{Values, with_declarators, with_declared_names, 
 use Rattle.v_tree.specs.declared.item.Header.TheVariants as Header
 use Rattle.v_tree.specs.declared.item.Item.TheVariants as Item
 
+-- What an action for items, headers and modules makes of the stack (IEEE 1364-2005, clause 12), and none where its
+-- parts don't lie on top.
 abbrev pub module_act : ModuleAction → Values → Option Values
 module_act action.PortItem st =
     with_declared_names st (λ names st. with_range_option st (λ range st. with_sign st (λ signed st. with_net_kind st (λ net st. with_direction st (λ direction st.

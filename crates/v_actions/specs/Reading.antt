@@ -23,12 +23,15 @@ use Rattle.v_tree.specs.declared.item.VTree.{VTree}
 abbrev pub V : Grammar
 V = grammar_of VERILOG
 
+-- the tokens of a text, without blanks, comments and lines of directives that count as blank
 abbrev pub tokens_in : List ℕ → List Token
 tokens_in text = tokens_of kind_of is_blank_line text
 
+-- the kinds of tokens, which are what the grammar derives
 abbrev pub kinds_of : List Token → List ℕ
 kinds_of tokens = map (λ (t : Token). t.kind) tokens
 
+-- the places of tokens, each that of the token's first byte
 abbrev pub places_of : List ℕ → List Token → List Place
 places_of text tokens = map (λ (t : Token). place_at text t.start) tokens
 

@@ -11,6 +11,7 @@ use Rattle.v_stack.specs.declared.values.PartValue.TheVariants as PartValue
 use Rattle.v_stack.specs.declared.values.ModuleValue.TheVariants as ModuleValue
 use Rattle.v_stack.specs.Values.{Values}
 
+-- the sort of a value: a number for each constructor
 abbrev pub sort_of : Value → ℕ
 sort_of (Value.Token (TokenValue.Place x)) = 1
 sort_of (Value.Token (TokenValue.Name x)) = 2
@@ -65,5 +66,6 @@ sort_of (Value.Module (ModuleValue.Module x)) = 49
 sort_of (Value.Module (ModuleValue.Modules x)) = 50
 sort_of (Value.Module (ModuleValue.Source x)) = 51
 
+-- the sorts of the values on a stack, from the top down
 abbrev pub sorts_of : Values → List ℕ
 sorts_of st = map sort_of st

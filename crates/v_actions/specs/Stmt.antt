@@ -11,6 +11,8 @@ use Rattle.v_tree.specs.declared.stmt.CaseKind.TheVariants as CaseKind
 use Rattle.v_tree.specs.declared.stmt.Stmt.TheVariants as Stmt
 use Rattle.v_tree.specs.declared.stmt.Target.TheVariants as Target
 
+-- What an action for statements and targets makes of the stack (IEEE 1364-2005, clause 9), and none where its parts
+-- don't lie on top.
 abbrev pub stmt_act : StmtAction → Values → Option Values
 stmt_act action.TargetName st = with_name st (λ name st. Some (Value.Stmt (StmtValue.Target (Target.Name name)) ∷ st))
 stmt_act action.TargetSelect st =

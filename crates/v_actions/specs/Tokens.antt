@@ -24,10 +24,12 @@ pub record Lexemes : Type 0 where
 abbrev pub place_in : List Place → ℕ → Place
 place_in places i = slice_index_or places i (record { line = 1; column = 1 })
 
+-- the bytes of a token
 abbrev pub bytes_of : List ℕ → Option Token → List ℕ
 bytes_of text None = []
 bytes_of text (Some token) = take token.len (drop token.start text)
 
+-- the bytes of token i, and none where there is no such token
 abbrev pub bytes_at : List ℕ → List Token → ℕ → List ℕ
 bytes_at text tokens i = bytes_of text (slice_get tokens i)
 
@@ -43,6 +45,7 @@ is_signed bytes = is_sign (slice_index bytes 1)
 abbrev pub based_part : List ℕ → List ℕ
 based_part bytes = if is_signed bytes then drop 2 bytes else drop 1 bytes
 
+-- the base that a letter writes: `b`, `o`, `d` or `h`, small or large (3.5.1)
 abbrev pub base_of : ℕ → Base
 base_of b =
     if b == 98 || b == 66 then Base.Binary
@@ -50,9 +53,11 @@ base_of b =
     else if is_base_ten b then Base.Decimal
     else Base.Hexadecimal
 
+-- what follows the spaces and tabs that the bytes begin with
 abbrev pub without_spaces : List ℕ → List ℕ
 without_spaces bytes = drop (run_len is_space bytes) bytes
 
+-- a based number, by the bytes of its token: perhaps `s` after `'`, then the base, spaces and digits (3.5.1)
 abbrev pub based_number : Place → List ℕ → BasedNumber
 based_number place bytes = record {
   place = place;
@@ -61,9 +66,11 @@ based_number place bytes = record {
   digits = utf8_lossy (without_spaces (drop 1 (based_part bytes)));
 }
 
+-- token i as a name (3.7)
 abbrev pub identifier_at : Lexemes → ℕ → Identifier
 identifier_at x i = record { place = place_in x.places i; name = spelling x i }
 
+-- token i as a decimal number, which is its digits (3.5.1)
 abbrev pub decimal_at : Lexemes → ℕ → DecimalNumber
 decimal_at x i = record { place = place_in x.places i; digits = spelling x i }
 

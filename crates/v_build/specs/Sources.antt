@@ -9,6 +9,7 @@ use Rattle.v_build.specs.declared.steps.Source.{Source}
 abbrev pub IsInside : (text : List ℕ) → Token → Type 0
 IsInside text token = token.start < length text
 
+-- what the loop reads, as the text, the tokens and their places
 abbrev pub lexemes_of : Source → Lexemes
 lexemes_of source = record { text = source.text.now; tokens = source.tokens.now; places = source.places.now }
 

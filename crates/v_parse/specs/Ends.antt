@@ -46,6 +46,7 @@ pub record RefusesDepth (text : List ℕ) (place : Place) : Type 0 where
   pub deep : IsDeepAt text DEEPEST tree token
   pub is : place ≡ place_of_token text (tokens_in text) token
 
+-- a refusal of one of these two kinds says this of the text and the place; no other kind comes from the reader
 abbrev pub RefusesBy : List ℕ → Kind → Place → Type 0
 RefusesBy text kind.Syntax place = RefusesSyntax text place
 RefusesBy text kind.TooDeep place = RefusesDepth text place

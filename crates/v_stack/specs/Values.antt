@@ -40,6 +40,7 @@ use Rattle.v_tree.specs.declared.stmt.Target.{Target}
 use Rattle.v_tree.specs.declared.expr.UnaryOperator.{UnaryOperator}
 use Rattle.v_tree.specs.declared.item.VTree.{VTree}
 
+-- a stack of values, the top one first
 abbrev pub Values : Type 0
 Values = List Value
 
