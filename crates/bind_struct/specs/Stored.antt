@@ -7,6 +7,7 @@ use Rattle.joint_ir.specs.declared.stmt.TStmt.{TStmt}
 use Rattle.joint_ir.specs.declared.stmt.TTarget.{TTarget}
 use Rattle.offence_order.specs.declared.Offence.{Offence}
 
+-- what is said of each target of a statement, and of the statements inside it
 abbrev mutual
   pub stored_in : (TTarget → List Offence) → SNode → List Offence
   stored_in f (Block' _ row) = stored_row f row

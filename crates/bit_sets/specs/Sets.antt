@@ -8,6 +8,7 @@ use Rattle.bit_sets.specs.declared.Bits.{Bits}
 abbrev pub is_set : ℕ → ℕ → Bool
 is_set mask k = eqb (bit_at mask k) 1
 
+-- an entry of a set holds bit k of signal g
 abbrev pub has : ℕ → ℕ → Bits → Bool
 has g k bits = eqb bits.signal g && is_set bits.mask k
 
@@ -19,6 +20,7 @@ is_in set g k = list_any (has g k) set
 abbrev pub IsWithin : ℕ → List Bits → Type 0
 IsWithin n set = All (λ bits. bits.signal < n) set
 
+-- a table in which no bit of any signal is set
 abbrev pub IsEmpty : List ℕ → Type 0
 IsEmpty table = (g : ℕ) → slice_index table g ≡ 0
 

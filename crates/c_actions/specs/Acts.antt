@@ -20,6 +20,7 @@ use Rattle.c_actions.specs.DeclarationActions.{after_char_type, after_short_type
 use Rattle.c_actions.specs.StatementActions.{after_call, after_assign, after_update, after_step_after, after_step_before, after_no_simple, after_some_simple, after_for_nothing, after_for_local, after_for_simple, after_case, after_default, after_first_label, after_add_label, after_labelled, after_add_to_group, after_group, after_no_groups, after_add_group, after_no_items, after_add_local, after_add_statement, after_block, after_compound, after_empty, after_simple, after_if_alone, after_if_else, after_while, after_do, after_for, after_switch, after_break, after_continue, after_return, after_assert, after_cprover_assert, after_cprover_assume}
 use Rattle.c_actions.specs.FileActions.{after_no_storage, after_extern, after_function_name, after_void_function, after_integer_function, after_function, after_definition, after_globals, after_const_globals, after_struct, after_mirror, after_bound, after_no_externals, after_one_external, after_add_external, after_file}
 
+-- the stack after an action on a token, with its place and its bytes; none where the stack isn't as the action needs it
 abbrev pub after_token_action : TokenAction → Place → List ℕ → Values → Option Values
 after_token_action token_action.Place place spelling st = after_place place st
 after_token_action token_action.Name place spelling st = after_name place spelling st
@@ -36,6 +37,7 @@ after_token_action (token_action.Binary operator) place spelling st = after_bina
 after_token_action (token_action.Assignment operator) place spelling st = after_assignment_mark operator place st
 after_token_action (token_action.Step operator) place spelling st = after_step_mark operator place st
 
+-- the stack after an action of an expression; none where it isn't as the action needs it
 abbrev pub after_expression_action : ExpressionAction → Values → Option Values
 after_expression_action expression_action.Object st = after_object st
 after_expression_action expression_action.AddPathMember st = after_add_path_member st
@@ -53,6 +55,7 @@ after_expression_action expression_action.Cast st = after_cast st
 after_expression_action expression_action.Binary st = after_binary st
 after_expression_action expression_action.Conditional st = after_conditional st
 
+-- the stack after an action of a declaration; none where it isn't as the action needs it
 abbrev pub after_declaration_action : DeclarationAction → Values → Option Values
 after_declaration_action declaration_action.CharType st = after_char_type st
 after_declaration_action declaration_action.ShortType st = after_short_type st
@@ -88,6 +91,7 @@ after_declaration_action declaration_action.NoParameters st = after_no_parameter
 after_declaration_action declaration_action.OneParameter st = after_one_parameter st
 after_declaration_action declaration_action.AddParameter st = after_add_parameter st
 
+-- the stack after an action of a statement; none where it isn't as the action needs it
 abbrev pub after_statement_action : StatementAction → Values → Option Values
 after_statement_action statement_action.Call st = after_call st
 after_statement_action statement_action.Assign st = after_assign st
@@ -128,6 +132,7 @@ after_statement_action statement_action.Assert st = after_assert st
 after_statement_action statement_action.CproverAssert st = after_cprover_assert st
 after_statement_action statement_action.CproverAssume st = after_cprover_assume st
 
+-- the stack after an action of a file, where the text ends at this place; none where it isn't as the action needs it
 abbrev pub after_file_action : FileAction → Place → Values → Option Values
 after_file_action file_action.NoStorage end st = after_no_storage st
 after_file_action file_action.Extern end st = after_extern st

@@ -5,5 +5,6 @@ use Rattle.c_actions.specs.declared.actions.Action.{Action}
 use Rattle.c_actions.specs.declared.actions.Action.TheVariants as action
 use Rattle.c_actions.specs.declared.actions.FileAction.TheVariants as file_action
 
+-- the action with a number of the table
 abbrev pub action_of : ℕ → Action
 action_of number = slice_index_or ACTIONS number (action.File file_action.NoExternals)

@@ -22,6 +22,7 @@ use Rattle.c_grammar.specs.declared.TheConstants.{MARKS}
 abbrev pub C : Grammar
 C = grammar_of TABLE
 
+-- the kinds of tokens, which the table is read by
 abbrev pub kinds_of : List CToken → List ℕ
 kinds_of tokens = map (λ (t : CToken). t.kind) tokens
 
@@ -33,6 +34,7 @@ NO_TOKEN = record { kind = 0; at = 0; start = 0; len = 0 }
 abbrev pub token_before : List CToken → ℕ → CToken
 token_before tokens i = slice_index_or tokens (i - 1) NO_TOKEN
 
+-- the place behind the text
 abbrev pub end_of : List ℕ → Place
 end_of text = place_at text (length text)
 

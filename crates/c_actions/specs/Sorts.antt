@@ -11,6 +11,7 @@ use Rattle.c_stack.specs.declared.values.SwitchValue.TheVariants as switch_value
 use Rattle.c_stack.specs.declared.values.FileValue.TheVariants as file_value
 use Rattle.c_stack.specs.Values.{Values}
 
+-- the number of a value's sort, as the table's actions name it
 abbrev pub sort_of : Value → ℕ
 sort_of (value.File (file_value.Externals x)) = 0
 sort_of (value.File (file_value.Tree x)) = 1
@@ -56,5 +57,6 @@ sort_of (value.Expression (expression_value.Object x)) = 40
 sort_of (value.Token (token_value.UnaryMark x)) = 41
 sort_of (value.Token (token_value.BinaryMark x)) = 42
 
+-- the sorts on a stack, the top first
 abbrev pub sorts_of : Values → List ℕ
 sorts_of st = map sort_of st

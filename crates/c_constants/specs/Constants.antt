@@ -33,6 +33,7 @@ holds_path (expression.Conditional' _ (expression.more_of-Expression condition _
 abbrev pub no_names : List Scope
 no_names = [] ∷ []
 
+-- a store without objects
 abbrev pub no_rows : Rows
 no_rows = rows_of 0 (record { globals = []; locals = []; members = [] })
 
@@ -49,6 +50,7 @@ abbrev pub answered : Answer → Constant
 answered (Value n) = Is n
 answered (Fault p) = Never
 
+-- the constant that an expression without paths is, by what it evaluates to (C99 6.6p1)
 abbrev pub evaluated : Expression → Constant
 evaluated e = given (offences_in no_names e) (nat_le (length (sites_in no_names e)) 4294967296) (c_value no_names no_rows e)
 
@@ -56,6 +58,7 @@ evaluated e = given (offences_in no_names e) (nat_le (length (sites_in no_names 
 abbrev pub constant_of : Expression → Constant
 constant_of e = if holds_path e then Never else evaluated e
 
+-- an expression that can't be constant, where a constant is wanted
 abbrev pub never_offences : Place → Constant → List Offence
 never_offences p (Is n) = []
 never_offences p Never = at p CConstant

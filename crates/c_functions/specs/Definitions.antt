@@ -33,6 +33,7 @@ abbrev pub param_known_as : IntType → (constant : Bool) → Option Identifier 
 param_known_as t constant None k = k
 param_known_as t constant (Some x) k = with_local (with_scopes k (pending k x)) t 0 constant x
 
+-- what is known behind a parameter of a definition
 abbrev pub param_known : Parameter → Known → Known
 param_known p k = param_known_as (named p.type_name.integer) (is_some p.constant) p.name k
 
@@ -41,17 +42,21 @@ abbrev pub param_offences_as : Place → Option Identifier → Known → List Of
 param_offences_as p None k = at p CFunctionType
 param_offences_as p (Some x) k = again_offences x.place (declared_in k.scopes x.name)
 
+-- what a parameter of a definition offends
 abbrev pub param_offences : Known → Parameter → List Offence
 param_offences k p = param_offences_as (parameter_start p) p.name k
 
+-- what is known behind parameters of a definition
 abbrev pub params_known : List Parameter → Known → Known
 params_known [] k = k
 params_known (p ∷ ps) k = params_known ps (param_known p k)
 
+-- what parameters of a definition offend, in order
 abbrev pub params_offences : Known → List Parameter → List Offence
 params_offences k [] = []
 params_offences k (p ∷ ps) = param_offences k p ++ params_offences (param_known p k) ps
 
+-- what stands around a body: the result of its function, and neither a loop nor a `switch`
 abbrev pub around_of : FunctionHead → Around
 around_of head = record { result = result_of head.result; in_loop = false; may_break = false }
 
@@ -59,16 +64,20 @@ around_of head = record { result = result_of head.result; in_loop = false; may_b
 abbrev pub inside : FunctionHead → Known → Known
 inside head k = params_known head.parameters (own kind.Recursion head.name.place (enter k))
 
+-- what parameters and body of a definition offend
 abbrev pub function_offences : FunctionHead → BlockTree → Known → List Offence
 function_offences head body k =
     params_offences (own kind.Recursion head.name.place (enter k)) head.parameters ++ items_offences (around_of head) (inside head k) body.items
 
+-- what is known behind a function's body, whose scope ends with it
 abbrev pub function_known : FunctionHead → BlockTree → Known → Known
 function_known head body k = leave_scope (items_known body.items (inside head k))
 
+-- the typed statements of a function's body
 abbrev pub function_typed : FunctionHead → BlockTree → Known → List TStmt
 function_typed head body k = items_typed (around_of head) (inside head k) body.items
 
+-- a function that is there and has a body
 abbrev pub has_body : Option Function → Bool
 has_body None = false
 has_body (Some f) = is_some f.body
@@ -78,6 +87,7 @@ abbrev pub body_offences : (names : List Scope) → List Function → FunctionHe
 body_offences names functions head p =
     if has_body (slice_get functions (function_number names head.name.name)) || is_known head.name.name then at p CRedeclared else []
 
+-- a function with its number of parameters, the place of the first one, and the statements of its body
 abbrev pub with_params : FunctionHead → (first : ℕ) → Place → List TStmt → Function
 with_params head first p items = record {
   name = head.name.name;
@@ -95,10 +105,12 @@ defined head body k = with_params head (number_of (length k.locals)) body.place 
 abbrev pub function_props : FunctionHead → (before : ℕ) → List Site → List Prop
 function_props head before sites = props_of head.name.name (drop before sites)
 
+-- what a definition offends: its first part, that its body stood before or may not be, then parameters and body
 abbrev pub definition_offences : (names : List Scope) → List Function → FunctionHead → BlockTree → Known → List Offence
 definition_offences names functions head body k =
     head_offences k head ++ (body_offences names functions head body.place ++ function_offences head body (head_known names head k))
 
+-- what is known behind a definition
 abbrev pub definition_known : (names : List Scope) → FunctionHead → BlockTree → Known → Known
 definition_known names head body k = function_known head body (head_known names head k)
 

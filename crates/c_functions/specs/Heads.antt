@@ -15,15 +15,18 @@ abbrev pub result_of : ResultType → Option IntType
 result_of (result.Void p) = None
 result_of (result.Integer ty) = Some (named ty.integer)
 
+-- the types of the parameters, in order
 abbrev pub parameter_types : List Parameter → List IntType
 parameter_types ps = map (λ (p : Parameter). named p.type_name.integer) ps
 
+-- both are `void`, or both have the same type
 abbrev pub same_result : Option IntType → Option IntType → Bool
 same_result None None = true
 same_result None (Some u) = false
 same_result (Some t) None = false
 same_result (Some t) (Some u) = same_type t u
 
+-- as many types, and each the same
 abbrev pub same_types : List IntType → List IntType → Bool
 same_types [] [] = true
 same_types [] (u ∷ us) = false
@@ -34,12 +37,15 @@ same_types (t ∷ ts) (u ∷ us) = same_type t u && same_types ts us
 abbrev pub is_free : FunctionHead → Bool
 is_free head = starts_with nat_eq head.name.name (codes "nondet_") && eqb (length head.parameters) 0 && is_some (result_of head.result)
 
+-- one of the two functions that steer the circuit
 abbrev pub is_known : List ℕ → Bool
 is_known name = bytes_eq name (codes "set_inputs") || bytes_eq name (codes "next_timeframe")
 
+-- the function at which a program begins (C99 5.1.2.2.1)
 abbrev pub is_main : List ℕ → Bool
 is_main name = bytes_eq name (codes "main")
 
+-- `void` or `int`
 abbrev pub is_int_or_void : Option IntType → Bool
 is_int_or_void None = true
 is_int_or_void (Some t) = same_type t int

@@ -23,6 +23,7 @@ with_body names (external.Function head) = names
 with_body names (external.Definition head body) = declare names head.name.name (entry.Function 0)
 with_body names (external.Objects g) = names
 
+-- the names of all functions of a file that have a body
 abbrev pub bodies_of : List External → List Scope
 bodies_of xs = fold with_body ([] ∷ []) xs
 
@@ -34,9 +35,11 @@ signature_of bodies head = record {
   callable = is_some (lookup bodies head.name.name) || is_free head;
 }
 
+-- a function of which no body was read yet
 abbrev pub without_body : FunctionHead → Function
 without_body head = record { name = head.name.name; result = result_of head.result; first = 0; params = 0; body = None }
 
+-- before the first function there is none
 abbrev pub no_functions : Table
 no_functions = record { names = [] ∷ []; signatures = []; functions = [] }
 
@@ -53,9 +56,11 @@ abbrev pub added_if : Option Entry → (bodies : List Scope) → Table → Funct
 added_if None bodies t head = added bodies t head
 added_if (Some e) bodies t head = t
 
+-- the table with a function, if its name is new
 abbrev pub entered_head : (bodies : List Scope) → Table → FunctionHead → Table
 entered_head bodies t head = added_if (lookup t.names head.name.name) bodies t head
 
+-- the table behind an external declaration
 abbrev pub entered : (bodies : List Scope) → Table → External → Table
 entered bodies t (external.Struct p tag members) = t
 entered bodies t (external.Mirror p tag x) = t
@@ -76,5 +81,6 @@ number_in (Some entry.Mirror) = 0
 number_in (Some (entry.Function n)) = n
 number_in (Some entry.Pending) = 0
 
+-- the number of the function of a name
 abbrev pub function_number : List Scope → List ℕ → ℕ
 function_number names name = number_in (lookup names name)

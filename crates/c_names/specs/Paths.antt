@@ -46,5 +46,6 @@ shaped indexed Unknown = Unknown
 shaped indexed Other = Other
 shaped indexed (Integer o) = if same_bool (nat_lt 0 o.length) indexed then Integer o else Other
 
+-- what a path leads to, where it has an index or none
 abbrev pub found : List Scope → (indexed : Bool) → Object → Found
 found env indexed x = shaped indexed (reached env x (lookup env x.name.name))

@@ -6,10 +6,12 @@ use Rattle.c_names.specs.declared.scope.Entry.{Entry}
 abbrev pub Scope : Type 0
 Scope = List (List ℕ × Entry)
 
+-- what a name means in one scope
 abbrev pub find_in : Scope → List ℕ → Option Entry
 find_in [] name = None
 find_in (e ∷ scope) name = if bytes_eq name e.0 then Some e.1 else find_in scope name
 
+-- the first entry, or else the second
 abbrev pub or_else : Option Entry → Option Entry → Option Entry
 or_else None other = other
 or_else (Some e) other = Some e
@@ -19,6 +21,7 @@ abbrev pub put : List ℕ → Entry → Scope → Scope
 put name entry [] = (name, entry) ∷ []
 put name entry (e ∷ scope) = if bytes_eq name e.0 then (e.0, entry) ∷ scope else e ∷ put name entry scope
 
+-- what a name means in the innermost scope
 abbrev pub declared_in : List Scope → List ℕ → Option Entry
 declared_in [] name = None
 declared_in (scope ∷ outer) name = find_in scope name

@@ -35,9 +35,11 @@ value_in t (Is n) = converted t n
 value_in t Never = pos 0
 value_in t Undefined = pos 0
 
+-- a constant expression as the value of an object of a type (C99 6.7.8p11)
 abbrev pub element_value : IntType → Expression → ℤ
 element_value t e = value_in t (constant_of e)
 
+-- the value of an initializer; 0 for a call, which is an offence there
 abbrev pub initial_value : IntType → Initializer → ℤ
 initial_value t (initializer.Value e) = element_value t e
 initial_value t (initializer.Called call) = pos 0
@@ -52,6 +54,7 @@ abbrev pub elements_offences : List Scope → List Expression → List Offence
 elements_offences env [] = []
 elements_offences env (e ∷ es) = constant_offences env (expression_start e) e ++ elements_offences env es
 
+-- the values that a declarator writes; elements behind them, and objects without any, begin as 0 (C99 6.7.8p10, p21)
 abbrev pub first_values : IntType → Declarator → List ℤ
 first_values t (declarator.Plain x) = []
 first_values t (declarator.Initialized x i) = initial_value t i ∷ []
@@ -65,9 +68,11 @@ object_length (declarator.Initialized x i) = 0
 object_length (declarator.Array x n) = array_length (constant_of n)
 object_length (declarator.InitializedArray x n es) = array_length (constant_of n)
 
+-- an object of file scope
 abbrev pub global_var : IntType → (constant : Bool) → (length : ℕ) → List ℤ → Identifier → Var
 global_var t constant n firsts x = record { name = x.name; ty = t; length = n; firsts = firsts; constant = constant }
 
+-- the object that a declarator of file scope declares
 abbrev pub object_var : IntType → (constant : Bool) → Declarator → Var
 object_var t constant d = global_var t constant (object_length d) (first_values t d) (declared_name d)
 
@@ -75,6 +80,7 @@ object_var t constant d = global_var t constant (object_length d) (first_values 
 abbrev pub global_entry : (before : ℕ) → IntType → (constant : Bool) → (length : ℕ) → Entry
 global_entry before t constant n = entry.Object (record { slot = Global (number_of before); ty = t; length = n; constant = constant })
 
+-- with the name of an object of file scope
 abbrev pub with_global : (before : ℕ) → IntType → (constant : Bool) → (length : ℕ) → Identifier → Known → Known
 with_global before t constant n x k = with_scopes k (declare k.scopes x.name (global_entry before t constant n))
 
@@ -82,9 +88,11 @@ with_global before t constant n x k = with_scopes k (declare k.scopes x.name (gl
 abbrev pub begun : Identifier → Known → Known
 begun x k = with_scopes k (pending k x)
 
+-- a name may be declared once in its scope
 abbrev pub begun_offences : Identifier → Known → List Offence
 begun_offences x k = again_offences x.place (declared_in k.scopes x.name)
 
+-- what is known behind a declarator of file scope
 abbrev pub object_known : (before : ℕ) → IntType → (constant : Bool) → Declarator → Known → Known
 object_known before t constant d k = with_global before t constant (object_length d) (declared_name d) (begun (declared_name d) k)
 
@@ -96,10 +104,12 @@ object_offences (declarator.Array x n) k = array_offences k.scopes n ++ begun_of
 object_offences (declarator.InitializedArray x n es) k =
     (array_offences k.scopes n ++ excess_offences (constant_of n) es) ++ (begun_offences x k ++ elements_offences (pending k x) es)
 
+-- what is known behind declarators of file scope
 abbrev pub objects_known : (before : ℕ) → IntType → (constant : Bool) → List Declarator → Known → Known
 objects_known before t constant [] k = k
 objects_known before t constant (d ∷ ds) k = objects_known (before + 1) t constant ds (object_known before t constant d k)
 
+-- what declarators of file scope offend, in order
 abbrev pub objects_offences : (before : ℕ) → IntType → (constant : Bool) → List Declarator → Known → List Offence
 objects_offences before t constant [] k = []
 objects_offences before t constant (d ∷ ds) k = object_offences d k ++ objects_offences (before + 1) t constant ds (object_known before t constant d k)
@@ -108,8 +118,10 @@ objects_offences before t constant (d ∷ ds) k = object_offences d k ++ objects
 abbrev pub globals_known : (before : ℕ) → Globals → Known → Known
 globals_known before g k = objects_known before (named g.type_name.integer) (is_some g.constant) g.declarators k
 
+-- what a declaration at file scope offends
 abbrev pub globals_offences : (before : ℕ) → Globals → Known → List Offence
 globals_offences before g k = objects_offences before (named g.type_name.integer) (is_some g.constant) g.declarators k
 
+-- the objects that a declaration at file scope declares
 abbrev pub globals_vars : Globals → List Var
 globals_vars g = map (object_var (named g.type_name.integer) (is_some g.constant)) g.declarators

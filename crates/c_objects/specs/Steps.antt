@@ -13,10 +13,12 @@ use Rattle.c_statements.specs.declared.walk.Typer.{Typer}
 use Rattle.c_statements.specs.Moves.{known_of, Goes}
 use Rattle.c_objects.specs.Objects.{element_value, elements_offences, object_offences, object_known, object_var, objects_offences, objects_known}
 
+-- the value of a constant expression for a type, and the offences that come with it
 pub record IsValue (env : List Scope) (old new : Notes) (t : IntType) (e : Expression) (n : ℤ) : Type 0 where
   pub value : n ≡ element_value t e
   pub notes : new ≡ told old (constant_offences env (expression_start e) e)
 
+-- the values of an array's first elements, and the offences that come with them
 pub record AreValues (env : List Scope) (old new : Notes) (t : IntType) (es : List Expression) (ns : List ℤ) : Type 0 where
   pub values : ns ≡ map (element_value t) es
   pub notes : new ≡ told old (elements_offences env es)
@@ -31,10 +33,12 @@ pub record IsObject (old new : Typer) (before after : List Var) (t : IntType) (c
   pub goes : Goes old new (object_offences d (known_of old)) (object_known (length before) t constant d (known_of old))
   pub vars : after ≡ before ++ object_var t constant d ∷ []
 
+-- the objects of declarators, and what the typer knows behind them
 pub record AreObjects (old new : Typer) (before after : List Var) (t : IntType) (constant : Bool) (ds : List Declarator) : Type 0 where
   pub goes : Goes old new (objects_offences (length before) t constant ds (known_of old)) (objects_known (length before) t constant ds (known_of old))
   pub vars : after ≡ before ++ map (object_var t constant) ds
 
+-- after i declarators: what is done and what is left make the whole
 pub record ObjectsSoFar (old now : Typer) (before here : List Var) (t : IntType) (constant : Bool) (ds : List Declarator) (i : ℕ) : Type 0 where
   pub first_so : first_of old.notes.first (objects_offences (length before) t constant ds (known_of old)) ≡ first_of now.notes.first (objects_offences (length here) t constant (drop i ds) (known_of now))
   pub known_so : objects_known (length before) t constant ds (known_of old) ≡ objects_known (length here) t constant (drop i ds) (known_of now)

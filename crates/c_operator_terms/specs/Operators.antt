@@ -19,6 +19,7 @@ pub record IsBinary (op : BinaryOp) (t u v : IntType) (division other : Option P
   pub program : CProgram
   pub fits : FitsBinary program op t u v division other
 
+-- the comparison of words with or without sign
 abbrev pub less_op_of : Bool → Op2
 less_op_of true = LtS
 less_op_of false = LtU

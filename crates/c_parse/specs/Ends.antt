@@ -48,6 +48,7 @@ pub record RefusesDepth (text : List ℕ) (place : Place) : Type 0 where
   pub deep : IsDeepAt text DEEPEST tree token
   pub is : place ≡ place_of_token text (c_tokens text) token
 
+-- a text is refused for its syntax or its depth, at this place, and for nothing else
 abbrev pub RefusesBy : List ℕ → Kind → Place → Type 0
 RefusesBy text kind.Syntax place = RefusesSyntax text place
 RefusesBy text kind.TooDeep place = RefusesDepth text place

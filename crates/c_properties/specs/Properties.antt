@@ -20,9 +20,11 @@ is_counted s t = eqb (kind_number t.kind) (kind_number s.kind) && is_earlier t.p
 abbrev pub number_among : List Site → Site → ℕ
 number_among sites s = number_of (1 + count_by (is_counted s) sites)
 
+-- a property of a function with its number and its line
 abbrev pub prop_numbered : List ℕ → Site → (number : ℕ) → Prop
 prop_numbered name s n = record { function = name; kind = s.kind; number = n; line = s.place.line }
 
+-- a property of a function, numbered among those of its kind
 abbrev pub prop_of : List ℕ → List Site → Site → Prop
 prop_of name sites s = prop_numbered name s (number_among sites s)
 

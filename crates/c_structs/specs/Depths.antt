@@ -10,6 +10,7 @@ use Rattle.c_structs.specs.Tags.{Ends}
 use Rattle.c_structs.specs.Lists.{TagList, known_tags, onto}
 use Rattle.c_structs.specs.Under.{member_path, members_under}
 
+-- the members of a struct that is kept, and none of one that isn't
 abbrev pub listed : Option TagList → List Part
 listed None = []
 listed (Some l) = l.1
@@ -18,17 +19,21 @@ listed (Some l) = l.1
 abbrev pub list_at : List TagList → ℕ → List Part
 list_at ls tag = listed (slice_get ls tag)
 
+-- the member of a struct at a place
 abbrev pub part_at : List TagList → (tag at : ℕ) → Option Part
 part_at ls tag at = slice_get (list_at ls tag) at
 
+-- the type of an integer member, and none of a struct
 abbrev pub shape_type : Shape → Option IntType
 shape_type (shape.Integer t n) = Some t
 shape_type (shape.Struct i) = None
 
+-- the length of an array member, and 0 for what is no array
 abbrev pub shape_length : Shape → ℕ
 shape_length (shape.Integer t n) = n
 shape_length (shape.Struct i) = 0
 
+-- a member with its whole path
 abbrev pub member_at : List ℕ → Part → Member
 member_at whole p = record { path = whole; place = p.name.place; ty = shape_type p.shape; length = shape_length p.shape }
 
@@ -52,6 +57,7 @@ abbrev pub frames_after : Frame → Option Part → List Frame
 frames_after f None = []
 frames_after f (Some p) = (record { path = f.path; tag = f.tag; at = f.at + 1 }) ∷ inner_frames (member_path f.path p.name.name) (inner_tag f.tag p.shape)
 
+-- the next member of a struct under way, if there is one
 abbrev pub members_after : Frame → Option Part → List Member
 members_after f None = []
 members_after f (Some p) = member_at (member_path f.path p.name.name) p ∷ []

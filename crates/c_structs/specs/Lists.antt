@@ -11,6 +11,7 @@ use Rattle.c_structs.specs.Tags.{Parts, Ends, Integer, Struct, Tag}
 abbrev pub TagList : Type 0
 TagList = List ℕ × List Part
 
+-- what a table of tags holds, in the order in which they were declared
 abbrev pub lists_of : {Y S : Type 0} → HashMap (String Y) (List Part) S → List TagList
 lists_of m = map (λ e. (string_bytes e.0, e.1)) m.entries
 
@@ -18,6 +19,7 @@ lists_of m = map (λ e. (string_bytes e.0, e.1)) m.entries
 abbrev pub tag_number : List Tag → List ℕ → Option ℕ
 tag_number tags name = position (λ t. bytes_eq name t.0) tags
 
+-- the members of a struct, and none where there is no struct
 abbrev pub parts_in : Option Tag → Parts
 parts_in None = Ends
 parts_in (Some t) = t.1

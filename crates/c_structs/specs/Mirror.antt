@@ -65,6 +65,7 @@ abbrev pub with_member_of : List Scope → (place : ℕ) → Member → Option I
 with_member_of env i m None = env
 with_member_of env i m (Some t) = declare env m.path (entry.Object (record { slot = InMirror (number_of i); ty = t; length = m.length; constant = false }))
 
+-- the scopes with the integer members of the mirror, from a place on
 abbrev pub with_members_of : List Scope → (place : ℕ) → List Member → List Scope
 with_members_of env i [] = env
 with_members_of env i (m ∷ ms) = with_members_of (with_member_of env i m m.ty) (i + 1) ms
@@ -74,6 +75,7 @@ abbrev pub scopes_after : List Scope → Structs → (tag name : Identifier) →
 scopes_after env s tag name (Some m) = env
 scopes_after env s tag name None = with_members_of (declare env name.name entry.Mirror) 0 (kept (few_members s tag name))
 
+-- the scopes behind a mirror's declaration
 abbrev pub mirror_scopes : List Scope → Structs → (tag name : Identifier) → List Scope
 mirror_scopes env s tag name = scopes_after env s tag name s.mirror
 
@@ -85,6 +87,7 @@ unsigned_int = sized 32 false
 abbrev pub other_offences : TypeName → Identifier → List Offence
 other_offences t x = if same_type (named t.integer) unsigned_int && bytes_eq x.name (codes "bound") then [] else at x.place CExtern
 
+-- what the declaration of `bound` offends: its name that was declared before, and another type or name
 abbrev pub bound_offences : List Scope → TypeName → Identifier → List Offence
 bound_offences env t x = name_again x (declared_in env x.name) ++ other_offences t x
 

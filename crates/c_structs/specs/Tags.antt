@@ -25,6 +25,7 @@ pub data Parts : Type 0 where
 abbrev pub Tag : Type 0
 Tag = List ℕ × Parts
 
+-- whether a tag was declared
 abbrev pub is_tag : List Tag → List ℕ → Bool
 is_tag [] name = false
 is_tag (t ∷ tags) name = if bytes_eq name t.0 then true else is_tag tags name
@@ -38,6 +39,7 @@ tag_parts (t ∷ tags) name = if bytes_eq name t.0 then t.1 else tag_parts tags 
 abbrev pub with_tag : List Tag → List ℕ → Parts → List Tag
 with_tag tags name parts = if is_tag tags name then tags else tags ++ (name, parts) ∷ []
 
+-- the name of an integer member
 abbrev pub item_name : MemberDeclarator → Identifier
 item_name (Plain x) = x
 item_name (Array x n) = x
@@ -67,6 +69,7 @@ parts_of tags (Structs p tag xs ∷ ms) = structs (tag_parts tags tag.name) xs (
 abbrev pub has_name : List (List ℕ) → List ℕ → Bool
 has_name names name = list_any (bytes_eq name) names
 
+-- with a name, where it isn't there yet
 abbrev pub with_name : List (List ℕ) → List ℕ → List (List ℕ)
 with_name names name = if has_name names name then names else names ++ name ∷ []
 
@@ -75,20 +78,25 @@ abbrev pub again_at : Identifier → (again : Bool) → List Offence
 again_at x true = at x.place CRedeclared
 again_at x false = []
 
+-- a member's name stands once in its struct (C99 6.7p3)
 abbrev pub again_offences : List (List ℕ) → Identifier → List Offence
 again_offences names x = again_at x (has_name names x.name)
 
+-- what the length of an array member offends
 abbrev pub length_offences : List Scope → MemberDeclarator → List Offence
 length_offences env (Plain x) = []
 length_offences env (Array x n) = array_offences env n
 
+-- what an integer member offends: its length, then its name
 abbrev pub item_offences : List Scope → List (List ℕ) → MemberDeclarator → List Offence
 item_offences env names d = length_offences env d ++ again_offences names (item_name d)
 
+-- what integer members of one type offend, in order
 abbrev pub items_offences : List Scope → List (List ℕ) → List MemberDeclarator → List Offence
 items_offences env names [] = []
 items_offences env names (d ∷ ds) = item_offences env names d ++ items_offences env (with_name names (item_name d).name) ds
 
+-- what the names of struct members offend, in order
 abbrev pub names_offences : List (List ℕ) → List Identifier → List Offence
 names_offences names [] = []
 names_offences names (x ∷ xs) = again_offences names x ++ names_offences (with_name names x.name) xs
@@ -98,10 +106,12 @@ abbrev pub items_names : List (List ℕ) → List MemberDeclarator → List (Lis
 items_names names [] = names
 items_names names (d ∷ ds) = items_names (with_name names (item_name d).name) ds
 
+-- the names of a struct so far, with those of struct members
 abbrev pub structs_names : List (List ℕ) → List Identifier → List (List ℕ)
 structs_names names [] = names
 structs_names names (x ∷ xs) = structs_names (with_name names x.name) xs
 
+-- the names of a struct so far, with those of a declaration
 abbrev pub member_names : List (List ℕ) → Member → List (List ℕ)
 member_names names (Integers t ds) = items_names names ds
 member_names names (Structs p tag xs) = structs_names names xs
@@ -111,13 +121,16 @@ abbrev pub unknown_at : Identifier → (known : Bool) → List Offence
 unknown_at tag true = []
 unknown_at tag false = at tag.place CUnknownTag
 
+-- the struct of a member has to be complete before it (C99 6.7.2.1p2)
 abbrev pub unknown_offences : List Tag → Identifier → List Offence
 unknown_offences tags tag = unknown_at tag (is_tag tags tag.name)
 
+-- what a declaration of members offends
 abbrev pub member_offences : List Scope → List Tag → List (List ℕ) → Member → List Offence
 member_offences env tags names (Integers t ds) = items_offences env names ds
 member_offences env tags names (Structs p tag xs) = unknown_offences tags tag ++ names_offences names xs
 
+-- what declarations of members offend, in order
 abbrev pub members_offences : List Scope → List Tag → List (List ℕ) → List Member → List Offence
 members_offences env tags names [] = []
 members_offences env tags names (m ∷ ms) = member_offences env tags names m ++ members_offences env tags (member_names names m) ms

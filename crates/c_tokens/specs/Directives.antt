@@ -14,6 +14,7 @@ use Rattle.c_tokens.specs.declared.kinds.TokenKind.{TokenKind}
 use Rattle.c_tokens.specs.declared.kinds.TokenKind.TheVariants.{Identifier, Integer, Minus, Less, Greater, OpenParenthesis, CloseParenthesis, Dot, Hash}
 use Rattle.c_tokens.specs.declared.directives.CToken.{CToken}
 
+-- a token is of this kind
 abbrev pub is_kind : TokenKind → Token → Bool
 is_kind kind t = t.kind == number_of kind
 

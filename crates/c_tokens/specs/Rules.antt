@@ -7,6 +7,7 @@ use Rattle.c_tokens.specs.declared.kinds.TokenKind.TheVariants.{Identifier, Inte
 use Rattle.c_tokens.specs.declared.rules.Base.{Base}
 use Rattle.c_tokens.specs.declared.rules.Base.TheVariants.{Octal, Decimal, Hexadecimal}
 
+-- a byte from low to high
 abbrev pub is_between : ℕ → ℕ → ℕ → Bool
 is_between low high b = nat_le low b && nat_le b high
 
@@ -64,6 +65,7 @@ is_after_digit first bytes = if first == 48 then is_after_zero bytes else is_dig
 abbrev pub is_printable : ℕ → Bool
 is_printable b = is_between 32 126 b
 
+-- no byte is left
 abbrev pub is_nothing : List ℕ → Bool
 is_nothing [] = true
 is_nothing (_ ∷ _) = false
@@ -104,6 +106,7 @@ is_after_double_quote (b ∷ bs) = if is_text b then is_after_double_quote bs el
 abbrev pub word_kind : List ℕ → ℕ
 word_kind bytes = unwrap_or (kind_in KEYWORDS bytes) (number_of Identifier)
 
+-- a kind, where the test holds
 abbrev pub if_so : Bool → ℕ → Option ℕ
 if_so true kind = Some kind
 if_so false kind = None

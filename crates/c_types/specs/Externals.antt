@@ -33,6 +33,7 @@ pub record FileKnown : Type 0 where
   -- the tags and the mirror so far
   pub structs : Structs
 
+-- what the typer of a file knows
 abbrev pub file_known : FileTyper → FileKnown
 file_known f = record { known = known_of f.typer; made = f.made; globals = f.globals; structs = f.structs }
 
@@ -45,6 +46,7 @@ pub record FileGoes (old new : FileTyper) (offences : List Offence) (after : Fil
 abbrev pub with_struct_of : Identifier → List Member → FileKnown → FileKnown
 with_struct_of tag ms f = record { known = f.known; made = f.made; globals = f.globals; structs = with_struct f.structs tag ms }
 
+-- what a struct offends
 abbrev pub struct_offences_of : Identifier → List Member → FileKnown → List Offence
 struct_offences_of tag ms f = struct_offences f.known.scopes f.structs tag ms
 
@@ -57,6 +59,7 @@ with_mirror_of tag name f = record {
   structs = with_mirror f.structs tag name;
 }
 
+-- what the mirror's declaration offends
 abbrev pub mirror_offences_of : (tag name : Identifier) → FileKnown → List Offence
 mirror_offences_of tag name f = mirror_offences f.known.scopes f.structs tag name
 
@@ -64,6 +67,7 @@ mirror_offences_of tag name f = mirror_offences f.known.scopes f.structs tag nam
 abbrev pub with_bound_of : Identifier → FileKnown → FileKnown
 with_bound_of x f = record { known = with_scopes f.known (bound_scopes f.known.scopes x); made = f.made; globals = f.globals; structs = f.structs }
 
+-- what the declaration of `bound` offends
 abbrev pub bound_offences_of : TypeName → Identifier → FileKnown → List Offence
 bound_offences_of ty x f = bound_offences f.known.scopes ty x
 
@@ -71,6 +75,7 @@ bound_offences_of ty x f = bound_offences f.known.scopes ty x
 abbrev pub with_declaration : (names : List Scope) → FunctionHead → FileKnown → FileKnown
 with_declaration names head f = record { known = declaration_known names head f.known; made = f.made; globals = f.globals; structs = f.structs }
 
+-- what the declaration of a function offends
 abbrev pub declaration_offences_of : (names : List Scope) → FunctionHead → FileKnown → List Offence
 declaration_offences_of names head f = declaration_offences names head f.known
 
@@ -83,6 +88,7 @@ with_definition names head body f = record {
   structs = f.structs;
 }
 
+-- what the definition of a function offends
 abbrev pub definition_offences_of : (names : List Scope) → FunctionHead → Block → FileKnown → List Offence
 definition_offences_of names head body f = definition_offences names f.made.functions head body f.known
 
@@ -95,9 +101,11 @@ with_objects g f = record {
   structs = f.structs;
 }
 
+-- what the declaration of objects offends
 abbrev pub objects_offences_of : Globals → FileKnown → List Offence
 objects_offences_of g f = globals_offences (length f.globals) g f.known
 
+-- what is known behind an external declaration
 abbrev pub external_known : (names : List Scope) → External → FileKnown → FileKnown
 external_known names (external.Struct p tag ms) f = with_struct_of tag ms f
 external_known names (external.Mirror p tag x) f = with_mirror_of tag x f
@@ -106,6 +114,7 @@ external_known names (external.Function head) f = with_declaration names head f
 external_known names (external.Definition head body) f = with_definition names head body f
 external_known names (external.Objects g) f = with_objects g f
 
+-- what an external declaration offends
 abbrev pub external_offences : (names : List Scope) → External → FileKnown → List Offence
 external_offences names (external.Struct p tag ms) f = struct_offences_of tag ms f
 external_offences names (external.Mirror p tag x) f = mirror_offences_of tag x f
@@ -119,6 +128,7 @@ abbrev pub externals_known : (names : List Scope) → List External → FileKnow
 externals_known names [] f = f
 externals_known names (x ∷ xs) f = externals_known names xs (external_known names x f)
 
+-- what external declarations offend, in text order
 abbrev pub externals_offences : (names : List Scope) → List External → FileKnown → List Offence
 externals_offences names [] f = []
 externals_offences names (x ∷ xs) f = external_offences names x f ++ externals_offences names xs (external_known names x f)

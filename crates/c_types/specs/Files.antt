@@ -22,6 +22,7 @@ defines_main (external.Function head) = false
 defines_main (external.Definition head body) = is_main head.name.name
 defines_main (external.Objects g) = false
 
+-- some function `main` has a body
 abbrev pub has_main : List External → Bool
 has_main xs = list_any defines_main xs
 
@@ -38,6 +39,7 @@ at_start xs = record {
   structs = nothing_declared;
 }
 
+-- the name of the function at which a program begins
 abbrev pub main_name : List ℕ
 main_name = codes "main"
 
@@ -45,6 +47,7 @@ main_name = codes "main"
 abbrev pub c_offences : CTree → List Offence
 c_offences tree = externals_offences (table_of tree.externals).names tree.externals (at_start tree.externals) ++ no_main_offences tree
 
+-- the typed program, where all is known
 abbrev pub program_with : FileKnown → (main : ℕ) → CProgram
 program_with f main = record {
   functions = f.made.functions;
