@@ -108,22 +108,27 @@ abbrev pub OptionBytes : Option Expression → Type 0
 OptionBytes None = Unit {0}
 OptionBytes (Some e) = AreBytes e
 
+-- the same in what an object is set to, if it is set
 abbrev pub OptionInitBytes : Option Initializer → Type 0
 OptionInitBytes None = Unit {0}
 OptionInitBytes (Some i) = InitBytes i
 
+-- the same in the last part of a `for`, if there is one
 abbrev pub StepBytes : Option Simple → Type 0
 StepBytes None = Unit {0}
 StepBytes (Some s) = SimpleBytes s
 
+-- the same in a declaration in a block
 abbrev pub LocalBytes : ALocal → Type 0
 LocalBytes l = All DeclaratorBytes l.declarators
 
+-- the same in the first part of a `for`
 abbrev pub FirstBytes : ForFirst → Type 0
 FirstBytes for_first.Nothing = Unit {0}
 FirstBytes (for_first.Local l) = LocalBytes l
 FirstBytes (for_first.Simple s) = SimpleBytes s
 
+-- the same in a statement, and in all that stands in it
 abbrev mutual
   pub StatementBytes : Statement → Type 0
   StatementBytes (statement.Compound' p _ items) = RowBytes items

@@ -42,6 +42,7 @@ use Rattle.c_tree.specs.Trees.{Trees, none, also, one}
 abbrev pub leaf : Place → Trees
 leaf p = one p none
 
+-- the nodes of a path and of an expression
 abbrev mutual
   pub path_trees : Path → Trees
   path_trees (path.Object o) = leaf o.name.place
@@ -64,29 +65,36 @@ abbrev pub all_trees : {A : Type 0} → (A → Trees) → List A → Trees
 all_trees trees [] = none
 all_trees trees (x ∷ xs) = also (trees x) (all_trees trees xs)
 
+-- the nodes of a part, if there is one
 abbrev pub option_trees : {A : Type 0} → (A → Trees) → Option A → Trees
 option_trees trees None = none
 option_trees trees (Some x) = trees x
 
+-- a call, and its arguments
 abbrev pub call_trees : Call → Trees
 call_trees call = one call.name.place (all_trees expression_trees call.arguments)
 
+-- the nodes of an initializer: its expression, or its call
 abbrev pub initializer_trees : Initializer → Trees
 initializer_trees (initializer.Value e) = expression_trees e
 initializer_trees (initializer.Called call) = call_trees call
 
+-- a name that is declared
 abbrev pub name_trees : Identifier → Trees
 name_trees x = leaf x.place
 
+-- a declared name, with its length and its values
 abbrev pub declarator_trees : Declarator → Trees
 declarator_trees (declarator.Plain x) = leaf x.place
 declarator_trees (declarator.Initialized x i) = one x.place (initializer_trees i)
 declarator_trees (declarator.Array x n) = one x.place (expression_trees n)
 declarator_trees (declarator.InitializedArray x n es) = one x.place (also (expression_trees n) (all_trees expression_trees es))
 
+-- the names that a declaration in a block declares
 abbrev pub local_trees : Local → Trees
 local_trees l = all_trees declarator_trees l.declarators
 
+-- the nodes of an assignment, a step or a call
 abbrev pub simple_trees : Simple → Trees
 simple_trees (simple.Assign x i) = also (path_trees x) (initializer_trees i)
 simple_trees (simple.Update x mark e) = also (path_trees x) (expression_trees e)
@@ -94,10 +102,12 @@ simple_trees (simple.StepAfter x mark) = path_trees x
 simple_trees (simple.StepBefore mark x) = path_trees x
 simple_trees (simple.Called call) = call_trees call
 
+-- the nodes of a label's expression; `default` has none
 abbrev pub label_trees : Label → Trees
 label_trees (label.Case p e) = expression_trees e
 label_trees (label.Default p) = none
 
+-- the nodes of the first part of a `for`
 abbrev pub first_trees : ForFirst → Trees
 first_trees for_first.Nothing = none
 first_trees (for_first.Local l) = local_trees l
@@ -142,14 +152,17 @@ abbrev mutual
 abbrev pub block_trees : Block → Trees
 block_trees b = one b.place (all_trees item_trees b.items)
 
+-- a member's name, with its length
 abbrev pub member_declarator_trees : MemberDeclarator → Trees
 member_declarator_trees (member_declarator.Plain x) = leaf x.place
 member_declarator_trees (member_declarator.Array x n) = one x.place (expression_trees n)
 
+-- the names of members that one declaration declares
 abbrev pub member_trees : Member → Trees
 member_trees (member.Integers ty ds) = all_trees member_declarator_trees ds
 member_trees (member.Structs p tag names) = all_trees name_trees names
 
+-- a parameter's name, if it has one
 abbrev pub parameter_trees : Parameter → Trees
 parameter_trees x = option_trees name_trees x.name
 
@@ -157,9 +170,11 @@ parameter_trees x = option_trees name_trees x.name
 abbrev pub head_trees : FunctionHead → Trees
 head_trees head = also (leaf head.name.place) (all_trees parameter_trees head.parameters)
 
+-- the names that a declaration at file scope declares
 abbrev pub globals_trees : Globals → Trees
 globals_trees g = all_trees declarator_trees g.declarators
 
+-- the nodes inside an external declaration
 abbrev pub inside_external : External → Trees
 inside_external (external.Struct p tag members) = also (leaf tag.place) (all_trees member_trees members)
 inside_external (external.Mirror p tag name) = leaf name.place
@@ -168,6 +183,7 @@ inside_external (external.Function head) = head_trees head
 inside_external (external.Definition head body) = also (head_trees head) (block_trees body)
 inside_external (external.Objects g) = globals_trees g
 
+-- an external declaration, and the nodes inside it
 abbrev pub external_trees : External → Trees
 external_trees x = one (external_start x) (inside_external x)
 

@@ -33,13 +33,16 @@ use Rattle.c_tree.specs.declared.statements.Simple.TheVariants as simple
 use Rattle.c_tree.specs.declared.statements.Statement.{Statement}
 use Rattle.c_tree.specs.declared.statements.Statement as statement
 
+-- an object starts with its name
 abbrev pub object_start : Object → Place
 object_start o = o.name.place
 
+-- a path starts with its object
 abbrev pub path_start : Path → Place
 path_start (path.Object o) = object_start o
 path_start (path.Element' o p _ (path.more_of-Expression e _)) = object_start o
 
+-- an expression starts with its first operand, with an operator that stands before it, or with a parenthesis
 abbrev pub expression_start : Expression → Place
 expression_start (expression.Integer p spelled) = p
 expression_start (expression.Character p value) = p
@@ -52,33 +55,41 @@ expression_start (expression.Cast' p ty _ (expression.more_of-Expression e _)) =
 expression_start (expression.Binary' _ (expression.more_of-Expression left _) mark _ (expression.more_of-Expression right _)) = expression_start left
 expression_start (expression.Conditional' _ (expression.more_of-Expression condition _) p _ (expression.more_of-Expression first _) _ (expression.more_of-Expression second _)) = expression_start condition
 
+-- a call starts with the function's name
 abbrev pub call_start : Call → Place
 call_start call = call.name.place
 
+-- an initializer starts with its expression or its call
 abbrev pub initializer_start : Initializer → Place
 initializer_start (initializer.Value e) = expression_start e
 initializer_start (initializer.Called call) = call_start call
 
+-- a declarator starts with the name that it declares
 abbrev pub declarator_start : Declarator → Place
 declarator_start (declarator.Plain x) = x.place
 declarator_start (declarator.Initialized x i) = x.place
 declarator_start (declarator.Array x n) = x.place
 declarator_start (declarator.InitializedArray x n es) = x.place
 
+-- a declaration in a block starts with `const`, or else with its type
 abbrev pub local_start : Local → Place
 local_start l = unwrap_or l.constant l.type_name.place
 
+-- a member's declarator starts with its name
 abbrev pub member_declarator_start : MemberDeclarator → Place
 member_declarator_start (member_declarator.Plain x) = x.place
 member_declarator_start (member_declarator.Array x n) = x.place
 
+-- a declaration of members starts with its type, or with `struct`
 abbrev pub member_start : Member → Place
 member_start (member.Integers ty ds) = ty.place
 member_start (member.Structs p tag names) = p
 
+-- a parameter starts with `const`, or else with its type
 abbrev pub parameter_start : Parameter → Place
 parameter_start x = unwrap_or x.constant x.type_name.place
 
+-- the result of a function starts with `void`, or with its type
 abbrev pub result_start : ResultType → Place
 result_start (result_type.Void p) = p
 result_start (result_type.Integer ty) = ty.place
@@ -89,12 +100,15 @@ storage_start storage.Unspecified next = next
 storage_start (storage.Extern p) next = p
 storage_start (storage.Static p) next = p
 
+-- a function starts with its storage class, or else with its result
 abbrev pub head_start : FunctionHead → Place
 head_start head = storage_start head.storage (result_start head.result)
 
+-- a declaration at file scope starts with its storage class, then `const`, then its type: with the first that it has
 abbrev pub globals_start : Globals → Place
 globals_start g = storage_start g.storage (unwrap_or g.constant g.type_name.place)
 
+-- an assignment, a step or a call starts with its path, an operator before it, or a function's name
 abbrev pub simple_start : Simple → Place
 simple_start (simple.Assign x i) = path_start x
 simple_start (simple.Update x mark e) = path_start x
@@ -102,10 +116,12 @@ simple_start (simple.StepAfter x mark) = path_start x
 simple_start (simple.StepBefore mark x) = mark.place
 simple_start (simple.Called call) = call_start call
 
+-- a label starts with `case` or `default`
 abbrev pub label_start : Label → Place
 label_start (label.Case p e) = p
 label_start (label.Default p) = p
 
+-- a statement starts with its keyword, brace or semicolon, or as its assignment, step or call does
 abbrev pub statement_start : Statement → Place
 statement_start (statement.Compound' p _ items) = p
 statement_start (statement.Empty p) = p
@@ -123,6 +139,7 @@ statement_start (statement.Assert p e) = p
 statement_start (statement.CproverAssert p e) = p
 statement_start (statement.CproverAssume p e) = p
 
+-- an external declaration starts with its first word
 abbrev pub external_start : External → Place
 external_start (external.Struct p tag members) = p
 external_start (external.Mirror p tag name) = p
@@ -136,5 +153,6 @@ abbrev pub first_start : List External → Place → Place
 first_start [] end = end
 first_start (x ∷ xs) end = external_start x
 
+-- a file starts with its first external declaration
 abbrev pub tree_start : CTree → Place
 tree_start tree = first_start tree.externals tree.end

@@ -8,6 +8,7 @@ pub data Trees : Type 0 where
   none : Trees
   node : (place : Place) → (inside after : Trees) → Trees
 
+-- how many nodes the longest way from a root down has
 abbrev pub height : Trees → ℕ
 height none = 0
 height (node p a b) = max (1 + height a) (height b)
@@ -17,6 +18,7 @@ abbrev pub size : Trees → ℕ
 size none = 0
 size (node p a b) = 1 + size a + size b
 
+-- trees, and more behind them
 abbrev pub also : Trees → Trees → Trees
 also none g = g
 also (node p a b) g = node p a (also b g)

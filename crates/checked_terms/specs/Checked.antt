@@ -27,6 +27,7 @@ abbrev pub check_of : Option PropId → SizedTerm → Option Check
 check_of None t = None
 check_of (Some p) t = Some (record { prop = p; test = t })
 
+-- the term of a check, if there is one, stands in the graph
 abbrev pub HasCheck : Graph → Option Check → Type 0
 HasCheck g None = Unit {0}
 HasCheck g (Some c) = Has g c.test

@@ -21,10 +21,12 @@ lit sign v = record { var = v; negative = sign }
 abbrev pub opposite : Lit → Lit
 opposite l = lit (not l.negative) l.var
 
+-- whether two truth values are the same
 abbrev pub bool_eq : Bool → Bool → Bool
 bool_eq true b = b
 bool_eq false b = not b
 
+-- whether two literals are the same: of one variable, with one sign
 abbrev pub lit_eq : Lit → Lit → Bool
 lit_eq a b = (a.var == b.var) && bool_eq a.negative b.negative
 

@@ -10,6 +10,7 @@ use Rattle.clap.specs.declared.builder.ArgAction.TheVariants.{Set, SetTrue}
 abbrev pub valued_rule : Text → Rule
 valued_rule name = record (new_rule name) { long = Some name; action = Some Set }
 
+-- the option `--check-bound`, which takes no value
 abbrev pub check_rule : Rule
 check_rule = record (new_rule (codes "check-bound")) { long = Some (codes "check-bound"); action = Some SetTrue }
 
@@ -21,6 +22,7 @@ file_rule id = record (new_rule id) { action = Some Set }
 abbrev pub bare : App
 bare = on_top (λ s. record s { no_binary_name = true; disable_help_flag = true }) (new_app (codes "hwcbmc"))
 
+-- with the six options that take a value
 abbrev pub with_valued_options : App → App
 with_valued_options a =
     with_rule (with_rule (with_rule (with_rule (with_rule (with_rule a
@@ -31,6 +33,7 @@ with_valued_options a =
     (valued_rule (codes "budget")))
     (valued_rule (codes "decide"))
 
+-- the command: its options, then the C file and the Verilog file
 abbrev pub asked : App
 asked = with_rule (with_rule (with_rule (with_valued_options bare) check_rule) (file_rule (codes "c-file"))) (file_rule (codes "v-file"))
 
@@ -39,6 +42,7 @@ abbrev pub is_true : Option Text → Bool
 is_true None = false
 is_true (Some text) = bytes_eq text (codes "true")
 
+-- what the matches say, if both files are named; an option that isn't there has no value
 abbrev pub with_both : List Row → (c_file v_file : Option Text) → Option Said
 with_both rows None v = None
 with_both rows (Some c) None = None
@@ -54,5 +58,6 @@ with_both rows (Some c) (Some v) = Some (record {
   v_file = v;
 })
 
+-- what the rows of the matches say
 abbrev pub given_by : List Row → Option Said
 given_by rows = with_both rows (first_of (codes "c-file") rows) (first_of (codes "v-file") rows)

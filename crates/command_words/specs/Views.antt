@@ -3,6 +3,7 @@ use Rattle.std.specs.Prelude.{option_map}
 use Rattle.command_words.specs.declared.reading.Written.{Written}
 use Rattle.command_words.specs.Words.{Said}
 
+-- what was written, with words as bytes
 abbrev pub said_of : Written → Said
 said_of g = record {
   top = option_map (λ s. s.now) g.top;

@@ -7,6 +7,7 @@
 use Rattle.std.specs.Prelude.{ℕ, ◌==◌, Bool, true, false, if◌then◌else◌, List, [], ◌∷◌, map, Option, Some, None, is_some, option_map, option_and_then, codes, bytes_eq}
 use Rattle.std.specs.List.{list_any, before_first, after_first}
 
+-- a word, as its bytes
 abbrev pub Text : Type 0
 Text = List ℕ
 
@@ -19,6 +20,7 @@ pub data Named : Type 0 where
   Budget : Named
   Decide : Named
 
+-- the name of an option, behind its two hyphens
 abbrev pub name_of : Named → Text
 name_of Top = codes "module"
 name_of Bound = codes "bound"
@@ -53,6 +55,7 @@ abbrev pub behind_hyphen : Text → Option Text
 behind_hyphen [] = None
 behind_hyphen (x ∷ xs) = if x == 45 then Some xs else None
 
+-- the word begins with `-`
 abbrev pub begins_with_hyphen : Text → Bool
 begins_with_hyphen word = is_some (behind_hyphen word)
 
@@ -73,6 +76,7 @@ name_and_value text =
 abbrev pub asked_option : Text → Option (Text × Option Text)
 asked_option word = option_map name_and_value (option_and_then behind_hyphen (behind_hyphen word))
 
+-- one thing before those that later words say, if these are right
 abbrev pub beside : Thing → Option (List Thing) → Option (List Thing)
 beside x things = option_map (λ xs. x ∷ xs) things
 
@@ -81,6 +85,7 @@ abbrev pub with_value : Named → (value : Option Text) (now later : Option (Lis
 with_value option (Some v) now later = beside (Sets option v) now
 with_value option None now later = later
 
+-- an option that takes no value, with what stands behind its `=`, which is an error
 abbrev pub without_value : (value : Option Text) (now : Option (List Thing)) → Option (List Thing)
 without_value (Some v) now = None
 without_value None now = beside Checks now
@@ -91,6 +96,7 @@ option_things (Some option) is_check value now later = with_value option value n
 option_things None true value now later = without_value value now
 option_things None false value now later = None
 
+-- the things that an option's word and the words behind it say; `later` leaves out the next word, which is its value
 abbrev pub asked_things : Option (Text × Option Text) → (now : Option (List Thing)) (later : Named → Option (List Thing)) → Option (List Thing)
 asked_things None now later = None
 asked_things (Some p) now later = option_things (named p.0) (bytes_eq check_name p.0) p.1 now later
@@ -108,6 +114,7 @@ things_of None (word ∷ rest) =
     else if is_option word then asked_things (asked_option word) (things_of None rest) (λ option. things_of (Some option) rest)
     else beside (Names word) (things_of None rest)
 
+-- whether two options are the same
 abbrev pub is_same : Named → Named → Bool
 is_same a b = bytes_eq (name_of a) (name_of b)
 
@@ -168,6 +175,7 @@ with_files things (c ∷ v ∷ []) = Some (record {
 })
 with_files things (c ∷ v ∷ x ∷ rest) = None
 
+-- what the words say, if no option stands twice and two files are named
 abbrev pub with_things : List Thing → Option Said
 with_things things = if are_once things then with_files things (files_of things) else None
 

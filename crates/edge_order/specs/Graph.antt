@@ -12,6 +12,7 @@ targets (v ∷ vs) (suc a) = targets vs a
 abbrev pub IsGraph : List (Vec ℕ) → Type 0
 IsGraph graph = All (λ v. All (λ b. b < length graph) v.items) graph
 
+-- an edge leads from a to b
 abbrev pub HasEdge : List (Vec ℕ) → ℕ → ℕ → Type 0
 HasEdge graph a b = Contains (targets graph a) b
 
@@ -24,6 +25,7 @@ pub data Reached (graph : List (Vec ℕ)) (seeds : List ℕ) : ℕ → Type 0 wh
 abbrev pub Leads : List (Vec ℕ) → ℕ → ℕ → Type 0
 Leads graph a b = Reached graph (targets graph a) b
 
+-- node k is marked
 abbrev pub IsMarked : List Bool → ℕ → Type 0
 IsMarked marks k = slice_index_or marks k false ≡ true
 

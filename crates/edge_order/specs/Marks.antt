@@ -3,6 +3,7 @@ use Rattle.std.specs.Prelude.{◌≡◌, ◌<◌, ◌+◌, ◌⊎◌, ℕ, Bool,
 use Rattle.std.specs.Global.{Vec}
 use Rattle.edge_order.specs.Graph.{IsMarked, HasEdge, Reached}
 
+-- how many nodes aren't marked
 abbrev pub unmarked : List Bool → ℕ
 unmarked marks = count_by not marks
 

@@ -28,6 +28,7 @@ pub record AreSearched (graph : List (Vec ℕ)) (n : ℕ) (stages : List ℕ) : 
   pub each : (a : ℕ) → a < n → IsSearched graph a (slice_index stages a)
   pub none : HasNoRing graph n
 
+-- an order of a graph without a ring; or the lowest node that leads to itself
 abbrev pub IsOrder : List (Vec ℕ) → Order → Type 0
 IsOrder graph (Sorted order) = HasNoRing graph (length graph) × IsForward graph order.items
 IsOrder graph (Ring v) = (v < length graph) × Leads graph v v × HasNoRing graph v

@@ -30,6 +30,8 @@ Rises graph stages n = (a b : ℕ) → a < n → HasEdge graph a b → slice_ind
 abbrev pub Stays : List (Vec ℕ) → List ℕ → ℕ → Type 0
 Stays graph stages n = (a b : ℕ) → a < n → HasEdge graph a b → slice_index stages a ≤ slice_index stages b
 
+-- all edges go to later stages; or v is the first node with an edge to its own stage, and no edge goes to an earlier
+-- one; or nothing is said
 abbrev pub IsVerdict : List (Vec ℕ) → List ℕ → Verdict → Type 0
 IsVerdict graph stages verdict.Rising = Rises graph stages (length graph)
 IsVerdict graph stages (verdict.Level v) = (v < length graph) × Rises graph stages v × Stays graph stages (length graph)
@@ -40,6 +42,7 @@ abbrev pub RisesBefore : List (Vec ℕ) → List ℕ → ℕ → Option ℕ → 
 RisesBefore graph stages n None = Rises graph stages n
 RisesBefore graph stages n (Some v) = (v < n) × Rises graph stages v
 
+-- a node with its stage
 abbrev pub staged : List ℕ → ℕ → Staged
 staged stages node = record { node = node; stage = slice_index stages node }
 

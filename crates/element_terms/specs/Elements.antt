@@ -6,6 +6,7 @@ use Rattle.word_eqs.specs.Meaning.{Values, Respects}
 use Rattle.sized_terms.specs.declared.SizedTerm.{SizedTerm}
 use Rattle.sized_terms.specs.Sized.{Has, Builds, bits}
 
+-- a term with its width
 abbrev pub sized : TermId → ℕ → SizedTerm
 sized t w = record { term = t; width = w }
 

@@ -24,5 +24,6 @@ DrawsIn f choices TooFew = Unit {0}
 pub record Draws (f : List ℕ → Effect) : Type 0 where
   pub at : (choices : List ℕ) → DrawsIn f choices (f choices)
 
+-- every joint run draws just what it tells
 abbrev pub ExactDraws : Type 0
 ExactDraws = (pair : Pair) (bounds : Bounds) → Draws (run_of pair bounds)

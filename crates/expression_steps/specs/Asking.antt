@@ -92,6 +92,7 @@ pub record IsJoined (old new : Unrolled) (op : LogicOp) (set y t : SizedTerm) : 
   pub width : t.width ≡ 32
   pub value : (v : Values) → Respects v new.terms → (b : Bool) → bits v set ≡ bit b → number true 32 (bits v t) ≡ bit_of (joined_by op b (is_set v y))
 
+-- the operation on bits that `&&` and `||` are, where both operands are one bit
 abbrev pub join_op_of : LogicOp → Op2
 join_op_of And = op2.And
 join_op_of Or = op2.Or

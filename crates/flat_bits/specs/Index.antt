@@ -14,6 +14,7 @@ abbrev pub IsAway : ℤ → Type 0
 IsAway (pos n) = 2 ^ 62 ≤ n
 IsAway (negsuc n) = 2 ^ 62 ≤ n
 
+-- a number within about 2^62 of 0, on either side
 abbrev pub IsClose : ℤ → Type 0
 IsClose z = (negsuc (2 ^ 62) ≤ℤ z) × (z ≤ℤ pos (2 ^ 62))
 

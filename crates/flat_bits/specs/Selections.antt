@@ -26,6 +26,7 @@ abbrev pub in_span : ℕ → ℤ → ℕ → ℕ → Bool
 in_span bits from zero k = false
 in_span bits from (suc n) k = is_place bits (from +ℤ pos n) k || in_span bits from n k
 
+-- an index that leads to a number leads to one that is close
 abbrev pub IsCloseIndex : Index → Type 0
 IsCloseIndex Varying = Unit {0}
 IsCloseIndex (At z) = IsClose z

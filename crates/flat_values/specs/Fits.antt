@@ -13,13 +13,16 @@ use Rattle.flat_tree.specs.Values.{Shape, Meant, own_fixed, meant, parts_meant, 
 abbrev pub shape_of : FlatSignal → Shape
 shape_of s = record { bits = s.bits; signed = s.signed; low = s.low; words = s.words }
 
+-- a signal that isn't there has no bits
 abbrev pub no_shape : Shape
 no_shape = record { bits = 0; signed = false; low = 0; words = 0 }
 
+-- what is known of a signal, if there is one
 abbrev pub shape_or : Option FlatSignal → Shape
 shape_or None = no_shape
 shape_or (Some s) = shape_of s
 
+-- what is known of each signal, by its number
 abbrev pub shapes_of : List FlatSignal → ℕ → Shape
 shapes_of signals g = shape_or (slice_get signals g)
 
@@ -53,6 +56,7 @@ selection_signed s (selection.Part high low) = false
 selection_signed s (selection.Up' _ i n) = false
 selection_signed s (selection.Down' _ i n) = false
 
+-- how many bits a select names
 abbrev pub number_length : FlatSelection → ℕ
 number_length (selection.Bit' _ i) = 1
 number_length (selection.Part high low) = high - low + 1
@@ -78,6 +82,7 @@ is_number (flat.Literal n) = true
 is_number (flat.Parentheses' place _ (flat.more_of-FlatExpr a _)) = is_number a
 is_number e = false
 
+-- an index is constant just where it is a literal, perhaps in parentheses
 abbrev pub IsIndex : (ℕ → Shape) → FlatExpr → Type 0
 IsIndex shapes i = own_fixed (meant shapes i) ≡ is_number i
 
@@ -125,5 +130,6 @@ module _ (known : ℕ → Type 0) (by_index joined : Type 0) (shapes : ℕ → S
 abbrev pub IsTaken : ℕ → (ℕ → Shape) → FlatExpr → Type 0
 IsTaken count shapes e = Fits (IsSignal count shapes) (Unit {0}) (Unit {0}) shapes e
 
+-- all parts are taken, over signals that are there
 abbrev pub AreTaken : ℕ → (ℕ → Shape) → List FlatExpr → Type 0
 AreTaken count shapes parts = FitsList (IsSignal count shapes) (Unit {0}) (Unit {0}) shapes parts

@@ -2,6 +2,7 @@
 use Rattle.std.specs.Prelude.{codes}
 use Rattle.grammar_laws.specs.Refused.{CStopsAt}
 
+-- texts that are no C file of the profile, each with the number of the token at which its reading stops
 pub record CRefusals : Type 0 where
   -- a `switch` has braces (the profile's Stmt)
   pub switch_without_body : CStopsAt (codes "void f(void) { switch (a) ; }") 10

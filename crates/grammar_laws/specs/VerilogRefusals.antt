@@ -2,6 +2,7 @@
 use Rattle.std.specs.Prelude.{codes}
 use Rattle.grammar_laws.specs.Refused.{VerilogStopsAt}
 
+-- texts that are no Verilog file of the profile, each with the number of the token at which its reading stops
 pub record VerilogRefusals : Type 0 where
   -- an assignment has its semicolon
   pub semicolon_missing : VerilogStopsAt (codes "module m; initial x = 1 endmodule") 7

@@ -18,6 +18,7 @@ abbrev pub counting : ℕ → Pair
 counting n = pair_of (main_of (NextFrame (prop 0) ∷ Assert (compare Eq (member 0) (number n)) (prop 1) ∷ []) ∷ [])
     [] (a_member 0 ∷ []) ((record { member = 0; signal = 1 }) ∷ []) (properties (kind.Frame ∷ kind.Assertion ∷ [])) counter
 
+-- the C program of the pair
 abbrev pub counting_program : ℕ → CProgram
 counting_program n = (counting n).program
 

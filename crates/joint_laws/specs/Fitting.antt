@@ -4,6 +4,7 @@ use Rattle.joint_ir.specs.WellFormed.{IsWellFormed}
 use Rattle.joint_laws.specs.Modules.{free_counter, divider}
 use Rattle.joint_laws.specs.Pairs.{two_edges_to, summing, endless, disabling, not_disabling, adding_one, adding_one_unsigned, shifting, dividing, least_divided, past_the_end, filling, recursive, without_value, assuming, falling_through, idle, reading_past_a_memory}
 
+-- each of the small pairs is well-formed
 pub record WorkedPairs : Type 0 where
   pub two_edges : (n : ℕ) → n ≤ 2147483647 → IsWellFormed (two_edges_to n)
   pub summing : IsWellFormed summing

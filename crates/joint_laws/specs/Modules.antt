@@ -10,12 +10,15 @@ use Rattle.joint_ir.specs.declared.module.FlatModule.{FlatModule}
 use Rattle.joint_ir.specs.declared.module.Role.TheVariants.{Input, Clock, Register, Wire}
 use Rattle.joint_laws.specs.Words.{signal}
 
+-- the term with a number
 abbrev pub id : ℕ → TermId
 id i = record { 0 = i }
 
+-- a node with its width
 abbrev pub term_of : (width : ℕ) → TermNode → Term
 term_of width node = record { node = node; width = width }
 
+-- the variable with a number
 abbrev pub var : ℕ → (width : ℕ) → Term
 var i width = term_of width (term.Var (record { 0 = i }))
 

@@ -22,9 +22,11 @@ use Rattle.joint_ir.specs.Types.{int}
 use Rattle.joint_laws.specs.Words.{here, byte, unsigned_int, prop, expr, stmt, stmts, number, local, member, sum, compare, target, declared, stored, stepped, var, int_var, nondet, main_of, property, properties, a_member, pair_of}
 use Rattle.joint_laws.specs.Modules.{counter, enabled, memory}
 
+-- a call of a function
 abbrev call_of : ℕ → List TExpr → TCall
 call_of f args = record { place = here; function = f; args = args }
 
+-- so many locals of type `int`
 abbrev pub ints : ℕ → List Var
 ints zero = []
 ints (suc n) = int_var ∷ ints n
@@ -33,6 +35,7 @@ ints (suc n) = int_var ∷ ints n
 abbrev pub with_functions : List Function → (locals : ℕ) → List Prop → List SNode → Pair
 with_functions functions n props body = pair_of (main_of body ∷ functions) (ints n) [] [] props counter
 
+-- a program that doesn't look at the circuit
 abbrev pub alone : (locals : ℕ) → List PropKind → List SNode → Pair
 alone n kinds body = with_functions [] n (properties kinds) body
 
@@ -67,15 +70,19 @@ enabled_by body = pair_of (main_of body ∷ []) []
     (a_member 0 ∷ a_member 0 ∷ []) ((record { member = 0; signal = 1 }) ∷ (record { member = 1; signal = 2 }) ∷ [])
     (properties (kind.Frame ∷ kind.Assertion ∷ [])) enabled
 
+-- `ce.enable = 0;`
 abbrev cleared : SNode
 cleared = Store (target (InMirror 0)) (Values (expr byte (Convert (number 0)) ∷ []))
 
+-- `assert(ce.count == 0);`
 abbrev count_is_0 : SNode
 count_is_0 = Assert (compare binary.Eq (member 1) (number 0)) (prop 1)
 
+-- with `set_inputs();`
 abbrev pub disabling : Pair
 disabling = enabled_by (cleared ∷ SetInputs ∷ NextFrame (prop 0) ∷ count_is_0 ∷ [])
 
+-- without `set_inputs();`
 abbrev pub not_disabling : Pair
 not_disabling = enabled_by (cleared ∷ NextFrame (prop 0) ∷ count_is_0 ∷ [])
 
@@ -84,6 +91,7 @@ abbrev pub adding_one : Pair
 adding_one = with_functions (nondet int ∷ []) 1 (properties (kind.Overflow ∷ [])) (
     Declare 0 (Called (call_of 1 [])) ∷ stored 0 (sum (local 0) (number 1) (prop 0)) ∷ [])
 
+-- `unsigned x = nondet_unsigned(); x = x + 1u;`
 abbrev pub adding_one_unsigned : Pair
 adding_one_unsigned = pair_of
     (main_of (Declare 0 (Called (call_of 1 []))

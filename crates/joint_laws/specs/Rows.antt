@@ -12,15 +12,19 @@ use Rattle.joint_laws.specs.Words.{prop, bounds_of, set, frame, told}
 use Rattle.joint_laws.specs.Modules.{free_counter, divider}
 use Rattle.joint_laws.specs.Pairs.{two_edges_to, summing, endless, disabling, not_disabling, adding_one, adding_one_unsigned, shifting, dividing, least_divided, past_the_end, filling, recursive, without_value, assuming, falling_through, idle, reading_past_a_memory}
 
+-- a word of a signal with its value
 abbrev shown : (signal word value : ℕ) → Shown
 shown s w n = record { signal = s; word = w; value = n }
 
+-- bounds of so many frames, past which a clock edge breaks its property
 abbrev checked_to : ℕ → Bounds
 checked_to k = record { unwind = 1; limits = []; frames = k; check_bound = true }
 
+-- what three turns of the loop show, before all that follows
 abbrev loop_events : List Event → List Event
 loop_events rest = frame 0 0 ∷ set 0 (pos 0) ∷ set 1 (pos 0) ∷ set 0 (pos 0) ∷ set 1 (pos 1) ∷ set 0 (pos 1) ∷ set 1 (pos 2) ∷ rest
 
+-- the runs of the small pairs, with all that they tell
 pub record WorkedRuns : Type 0 where
   -- the counter after two edges isn't 3
   pub two_edges : run_of (two_edges_to 3) (bounds_of 1 2) [] ≡ Stops (Broken (prop 2)) (told (frame 0 0 ∷ frame 1 1 ∷ frame 2 2 ∷ Broke (prop 2) ∷ []) []) []

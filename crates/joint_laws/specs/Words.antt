@@ -30,31 +30,40 @@ use Rattle.joint_ir.specs.declared.stmt.TTarget.{TTarget}
 use Rattle.joint_ir.specs.Effects.{Told}
 use Rattle.joint_ir.specs.Types.{int}
 
+-- line 1, column 1
 abbrev pub here : Place
 here = record { line = 1; column = 1 }
 
+-- `unsigned char`
 abbrev pub byte : IntType
 byte = record { bits = 8; signed = false; truth = false }
 
+-- `unsigned int`
 abbrev pub unsigned_int : IntType
 unsigned_int = record { bits = 32; signed = false; truth = false }
 
+-- the property with a number
 abbrev pub prop : ℕ → PropId
 prop i = record { 0 = i }
 
+-- an expression of a type
 abbrev pub expr : IntType → TNode → TExpr
 expr ty node = record { ty = ty; place = here; node = node }
 
+-- a statement
 abbrev pub stmt : SNode → TStmt
 stmt node = record { place = here; node = node }
 
+-- statements, in order
 abbrev pub stmts : List SNode → List TStmt
 stmts [] = []
 stmts (s ∷ rest) = stmt s ∷ stmts rest
 
+-- a constant of type `int`
 abbrev pub number : ℕ → TExpr
 number n = expr int (Const (pos n))
 
+-- the value of a local of type `int`
 abbrev pub local : ℕ → TExpr
 local x = expr int (Read (Local x))
 
@@ -66,9 +75,11 @@ member i = expr int (Convert (expr byte (Read (InMirror i))))
 abbrev pub sum : TExpr → TExpr → PropId → TExpr
 sum a b p = expr int (Binary binary.Add a b None (Some p))
 
+-- a comparison, which is an `int`
 abbrev pub compare : BinaryOp → TExpr → TExpr → TExpr
 compare op a b = expr int (Binary op a b None None)
 
+-- an object that is assigned as a whole
 abbrev pub target : Slot → TTarget
 target slot = record { place = here; slot = slot; index = None; bounds = None }
 
@@ -84,9 +95,11 @@ stored x e = Store (target (Local x)) (Values (e ∷ []))
 abbrev pub stepped : (x : ℕ) → PropId → SNode
 stepped x p = Update (target (Local x)) (record { op = binary.Add; ty = int; right = None; division = None; other = Some p })
 
+-- an object of a type: with the length 0 no array
 abbrev pub var : IntType → (length : ℕ) → Var
 var ty n = record { name = []; ty = ty; length = n; firsts = []; constant = false }
 
+-- an object of type `int`
 abbrev pub int_var : Var
 int_var = var int 0
 
@@ -94,9 +107,11 @@ int_var = var int 0
 abbrev pub nondet : IntType → Function
 nondet ty = record { name = []; result = Some ty; first = 0; params = 0; body = None }
 
+-- `main` with a body
 abbrev pub main_of : List SNode → Function
 main_of body = record { name = []; result = Some int; first = 0; params = 0; body = Some (stmt (Block (stmts body))) }
 
+-- a property of a kind
 abbrev pub property : PropKind → Prop
 property k = record { function = []; kind = k; number = 1; line = 1 }
 
@@ -109,6 +124,7 @@ properties (k ∷ kinds) = property k ∷ properties kinds
 abbrev pub signal : Role → (bits words : ℕ) → Signal
 signal role bits words = record { path = []; bits = bits; signed = false; low = 0; words = words; role = role }
 
+-- a member of the mirror of type `unsigned char`: with the length 0 no array
 abbrev pub a_member : (length : ℕ) → Member
 a_member n = record { path = []; place = here; ty = Some byte; length = n }
 
@@ -128,6 +144,7 @@ pair_of functions locals members links props m = record {
   binding = record { links = links };
 }
 
+-- bounds of so many turns of each loop and so many frames
 abbrev pub bounds_of : (turns frames : ℕ) → Bounds
 bounds_of turns frames = record { unwind = turns; limits = []; frames = frames; check_bound = false }
 
