@@ -9,6 +9,7 @@ use Rattle.ll_actions.specs.declared.step.Step.{Step}
 abbrev pub kinds_before : List (List ℕ) → ℕ → List ℕ
 kinds_before after a = slice_index_or after a []
 
+-- whether a kind is one of these
 abbrev pub is_among : ℕ → List ℕ → Bool
 is_among k [] = false
 is_among k (x ∷ xs) = nat_eq k x || is_among k xs
@@ -29,6 +30,7 @@ is_last_among kinds [] = false
 is_last_among kinds (x ∷ []) = nat_lt x 256 && is_among x kinds
 is_last_among kinds (x ∷ y ∷ ys) = is_last_among kinds (y ∷ ys)
 
+-- each body of the nonterminal n ends in a token of one of these kinds
 abbrev pub does_end_in : Lists → List ℕ → ℕ → Bool
 does_end_in t kinds n = all_below (length t.heads) (λ p. cond (nat_eq (slice_index t.heads p) n) (is_last_among kinds (body_of t p)) true)
 
@@ -37,9 +39,11 @@ abbrev pub kinds_at : List (List ℕ) → ℕ → List ℕ
 kinds_at after zero = []
 kinds_at after (suc a) = kinds_before after a
 
+-- the kinds that the symbol s comes after, by the spot of a nonterminal; nothing is claimed of a token
 abbrev pub kinds_of : List (List ℕ) → List ℕ → ℕ → List ℕ
 kinds_of after spots s = cond (nat_lt s 256) [] (kinds_at after (slice_index spots (s - 256)))
 
+-- whether kinds are claimed
 abbrev pub is_claimed : List ℕ → Bool
 is_claimed [] = false
 is_claimed (k ∷ ks) = true
@@ -49,10 +53,12 @@ abbrev pub does_lead_to : Lists → List ℕ → ℕ → Bool
 does_lead_to t [] x = true
 does_lead_to t (k ∷ ks) x = cond (nat_lt x 256) (is_among x (k ∷ ks)) (does_end_in t (k ∷ ks) x)
 
+-- each of the symbols after x comes after a token that it may come after, which the symbol before it tells
 abbrev pub do_follow : Lists → List (List ℕ) → List ℕ → ℕ → List ℕ → Bool
 do_follow t after spots x [] = true
 do_follow t after spots x (y ∷ ys) = does_lead_to t (kinds_of after spots y) x && do_follow t after spots y ys
 
+-- nothing is claimed of the first symbol of a body, and each later one comes after what is claimed of it
 abbrev pub is_body_placed : Lists → List (List ℕ) → List ℕ → List ℕ → Bool
 is_body_placed t after spots [] = true
 is_body_placed t after spots (x ∷ xs) = cond (is_claimed (kinds_of after spots x)) false (do_follow t after spots x xs)
@@ -62,6 +68,7 @@ abbrev pub is_mark_placed : List (List ℕ) → List ℕ → ℕ → ℕ → Boo
 is_mark_placed after spots s zero = true
 is_mark_placed after spots s (suc a) = cond (is_claimed (kinds_before after a)) (nat_eq (slice_index spots (s - 256)) (suc a)) true
 
+-- the body and the action of production p are placed so
 abbrev pub is_production_placed : Lists → List ℕ → List (List ℕ) → List ℕ → ℕ → Bool
 is_production_placed t marks after spots p = is_body_placed t after spots (body_of t p) && is_mark_placed after spots (slice_index t.heads p) (slice_index marks p)
 

@@ -33,6 +33,7 @@ taken [] st = Some st
 taken (x ∷ xs) [] = None
 taken (x ∷ xs) (y ∷ ys) = cond (nat_eq x y) (taken xs ys) None
 
+-- the sorts on the stack after an action, where it finds its own on top
 abbrev pub after_action : Signature → List ℕ → Option (List ℕ)
 after_action g st = option_map (λ rest. g.gives ∷ rest) (taken g.takes st)
 
@@ -41,26 +42,32 @@ abbrev pub sorts_after : List Signature → List Step → List ℕ → Option (L
 sorts_after gs [] st = Some st
 sorts_after gs (s ∷ ss) st = option_and_then (sorts_after gs ss) (after_action (signature_of gs s.action) st)
 
+-- the same after all actions of a nonterminal
 abbrev pub after_effect : Effect → List ℕ → Option (List ℕ)
 after_effect e st = option_map (λ rest. e.gives ++ rest) (taken e.takes st)
 
+-- the same after a symbol of a body; a token does nothing to the stack
 abbrev pub after_symbol : List Effect → ℕ → List ℕ → Option (List ℕ)
 after_symbol es s st = cond (nat_lt s 256) (Some st) (after_effect (effect_of es s) st)
 
+-- the same after all symbols of a body, in order
 abbrev pub after_body : List Effect → List ℕ → List ℕ → Option (List ℕ)
 after_body es [] st = Some st
 after_body es (s ∷ ss) st = option_and_then (after_body es ss) (after_symbol es s st)
 
+-- the same after a production's action: 0 for none, or one more than its number
 abbrev pub after_mark : List Signature → ℕ → List ℕ → Option (List ℕ)
 after_mark gs zero st = Some st
 after_mark gs (suc a) st = after_action (signature_of gs a) st
 
+-- whether two lists have the same numbers
 abbrev pub are_same : List ℕ → List ℕ → Bool
 are_same [] [] = true
 are_same [] (y ∷ ys) = false
 are_same (x ∷ xs) [] = false
 are_same (x ∷ xs) (y ∷ ys) = nat_eq x y && are_same xs ys
 
+-- whether these sorts are what is left, where something is
 abbrev pub is_stack : List ℕ → Option (List ℕ) → Bool
 is_stack xs None = false
 is_stack xs (Some ys) = are_same xs ys

@@ -9,6 +9,7 @@ abbrev pub marked : ℕ → ℕ → List Step → List Step
 marked zero i ss = ss
 marked (suc a) i ss = record { action = a; token = i } ∷ ss
 
+-- the steps of the productions of a parse tree, in their order
 abbrev pub steps_of : List ℕ → List Placed → List Step
 steps_of marks [] = []
 steps_of marks (p ∷ ps) = marked (slice_index marks p.production) p.place (steps_of marks ps)

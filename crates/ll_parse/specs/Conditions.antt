@@ -49,6 +49,7 @@ module _ (g : Grammar) (witness rank : ℕ → ℕ) where
   abbrev pub IsUnbarred : ℕ → Type 0
   IsUnbarred a = (p : ℕ) → p < g.productions → a ≢ g.not_before p
 
+  -- p is a production of the nonterminal s
   abbrev pub IsFor : ℕ → ℕ → Type 0
   IsFor s p = (p < g.productions) × (s ≡ g.head p)
 
@@ -56,17 +57,21 @@ module _ (g : Grammar) (witness rank : ℕ → ℕ) where
   abbrev pub CanEnd : ℕ → Type 0
   CanEnd s = ((s < 256) × IsUnbarred s) ⊎ ((256 ≤ s) × IsFor s (witness s))
 
+  -- the same, where the rank of a nonterminal is below r
   abbrev pub CanEndBelow : ℕ → ℕ → Type 0
   CanEndBelow r s = ((s < 256) × IsUnbarred s) ⊎ ((256 ≤ s) × IsFor s (witness s) × (rank s < r))
 
+  -- each of these symbols has such a text
   abbrev pub AllCanEnd : List ℕ → Type 0
   AllCanEnd [] = Unit {0}
   AllCanEnd (s ∷ ss) = CanEnd s × AllCanEnd ss
 
+  -- each of these symbols has one, where the ranks of nonterminals are below r
   abbrev pub AllCanEndBelow : ℕ → List ℕ → Type 0
   AllCanEndBelow r [] = Unit {0}
   AllCanEndBelow r (s ∷ ss) = CanEndBelow r s × AllCanEndBelow r ss
 
+  -- all symbols but the first
   abbrev pub tail_of : List ℕ → List ℕ
   tail_of [] = []
   tail_of (s ∷ ss) = ss
@@ -89,10 +94,12 @@ module _ (g : Grammar) (cost : ℕ → ℕ) (nullable : ℕ → Bool) (per_token
   steps_of [] = 0
   steps_of (s ∷ ss) = cost s + cond (nullable s) (steps_of ss) 0
 
+  -- whether all of these symbols may stand for nothing
   abbrev pub all_nullable : List ℕ → Bool
   all_nullable [] = true
   all_nullable (s ∷ ss) = cond (nullable s) (all_nullable ss) false
 
+  -- what these symbols cost together
   abbrev pub costs_of : List ℕ → ℕ
   costs_of [] = 0
   costs_of (s ∷ ss) = cost s + costs_of ss

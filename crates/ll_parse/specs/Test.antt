@@ -85,8 +85,8 @@ abbrev pub pays : Lists → ℕ → List ℕ → Bool
 pays t n b = nat_le (1 + costs_of (grammar_of t) (cost_of t) (nullable_of t) t.per_token b + t.per_token * cond (nullable_of t n) 0 1)
     (cost_of t n + t.per_token * tokens_of (grammar_of t) (cost_of t) (nullable_of t) t.per_token b)
 
--- production p keeps what LL(1) asks of it: it is picked wherever it can come, what follows it may, its tail can end,
--- and it is paid for
+-- production p keeps what LL(1) asks of it: it is picked wherever it can come, what comes after its symbols may, its
+-- text can end, and it is paid for
 abbrev pub is_production_fit : Lists → ℕ → Bool
 is_production_fit t p =
     let n = slice_index t.heads p in

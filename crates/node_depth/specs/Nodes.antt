@@ -14,6 +14,7 @@ abbrev pub count : Trees → ℕ
 count none = 0
 count (node p a b) = suc (count b)
 
+-- the greatest depth of a node, where roots stand 1 deep
 abbrev pub height : Trees → ℕ
 height none = 0
 height (node p a b) = max (1 + height a) (height b)
@@ -39,6 +40,7 @@ pub record FirstDeep (limit : ℕ) (f : Trees) (i : ℕ) : Type 0 where
 abbrev pub Deep : ℕ → Trees → Option ℕ → Type 0
 Deep limit f r = MatchOption r (height f ≤ limit) (λ i. FirstDeep limit f i)
 
+-- the trees of both, side by side
 abbrev pub also : Trees → Trees → Trees
 also none g = g
 also (node p a b) g = node p a (also b g)

@@ -9,6 +9,7 @@ use Rattle.node_depth.specs.declared.weave.Part.{Part}
 use Rattle.node_depth.specs.declared.weave.Weave.{Weave}
 use Rattle.node_depth.specs.Weaves.{weave_of}
 
+-- a value without tokens and without trees
 abbrev pub NOTHING : Part
 NOTHING = record { first = None; count = 0 }
 
@@ -27,6 +28,7 @@ abbrev pub wrapped : ℕ → ℕ → ℕ → List Node
 wrapped zero p c = []
 wrapped (suc n) p c = record { inside = c; place = p } ∷ wrapped n p 1
 
+-- how many trees there are with n nested nodes over c trees
 abbrev pub count_under : ℕ → ℕ → ℕ
 count_under zero c = c
 count_under (suc n) c = 1
@@ -40,6 +42,7 @@ pub record State : Type 0 where
 abbrev pub held : List Part → List Node → State
 held ps ns = record { parts = reverse ps; nodes = ns }
 
+-- One step: it takes its parts off the stack, puts their whole there, and lists the nodes that it makes over them.
 abbrev pub step_of : Weave → ℕ → State → State
 step_of w i s =
     let whole = gathered w.takes s.parts in
@@ -49,10 +52,12 @@ step_of w i s =
       nodes = s.nodes ++ wrapped w.nodes (unwrap_or first 0) whole.count;
     }
 
+-- the steps in order
 abbrev pub run : List Weave → List Step → State → State
 run ws [] s = s
 run ws (x ∷ xs) s = run ws xs (step_of (weave_of ws x.action) x.token s)
 
+-- how many trees all these values have
 abbrev pub total : List Part → ℕ
 total [] = 0
 total (p ∷ ps) = p.count + total ps

@@ -5,6 +5,7 @@ use Rattle.std.specs.declared.option.Option.{Option}
 use Rattle.std.specs.declared.option.Option.TheVariants.{None, Some}
 use Rattle.node_depth.specs.declared.depth.Node.{Node}
 
+-- the number x on top of a stack, n times
 abbrev pub copies : ℕ → ℕ → List ℕ → List ℕ
 copies zero x st = st
 copies (suc n) x st = x ∷ copies n x st

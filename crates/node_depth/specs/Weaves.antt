@@ -38,6 +38,7 @@ look_of w i parts =
 abbrev pub PLAIN : Weave
 PLAIN = record { takes = 0; nodes = 0; own = false }
 
+-- what the action of this number takes and makes
 abbrev pub weave_of : List Weave → ℕ → Weave
 weave_of ws a = slice_index_or ws a PLAIN
 

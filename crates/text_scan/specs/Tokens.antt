@@ -17,6 +17,7 @@ fresh_after (Some _) len fresh bytes = false
 
 -- The tokens of the bytes, of which the first is byte `at` of a text, in at most n parts.
 module _ (kind_of : List ℕ → Option ℕ) (is_blank_line : List ℕ → Bool) where
+  -- where the bytes are `fresh`, only blanks come before them on their line
   abbrev pub tokens_within : ℕ → Bool → ℕ → List ℕ → List Token
   tokens_within zero fresh at bytes = []
   tokens_within (suc n) fresh at [] = []

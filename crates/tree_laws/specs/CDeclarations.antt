@@ -14,6 +14,7 @@ use Rattle.c_tree.specs.declared.statements.Statement.TheVariants as Statement
 use Rattle.c_tree.specs.declared.declarations.Storage.TheVariants as Storage
 use Rattle.tree_laws.specs.CWords.{at, named, i, integer, typed, block, parameter, head, objects, HasExternals}
 
+-- small texts, and the declarations that they are
 pub record DeclarationTrees : Type 0 where
   -- a struct, and the mirror
   pub structs : HasExternals (codes "struct p { unsigned char a, t[4]; struct q r, s; _Bool b; }; extern struct p m;")

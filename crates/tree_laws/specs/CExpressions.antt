@@ -8,6 +8,7 @@ use Rattle.c_tree.specs.declared.declarations.Sign.TheVariants as Sign
 use Rattle.c_tree.specs.declared.expressions.UnaryOperator.TheVariants as Unary
 use Rattle.tree_laws.specs.CWords.{at, named, object, HasValue, a, b, c, d, e, f, i, integer, unary, binary, typed}
 
+-- expressions in small texts, and their trees
 pub record ExpressionTrees : Type 0 where
   -- each level binds more tightly than the one before
   pub logical_levels : HasValue (codes "int x = a ? b : c || d && e | f;")

@@ -15,6 +15,7 @@ use Rattle.c_tree.specs.declared.statements.Statement.TheVariants as Statement
 use Rattle.c_tree.specs.declared.expressions.StepOperator.TheVariants as Step
 use Rattle.tree_laws.specs.CWords.{at, named, object, variable, assigned, HasItems, HasStatement, a, b, i, integer, binary, typed, called, local, updating, stepping, group}
 
+-- statements in small texts, and their trees
 pub record StatementTrees : Type 0 where
   -- `else` belongs to the nearest `if`
   pub nearest_if : HasStatement (codes "void f(void) { if (a) if (b) x = 1; else x = 2; }")

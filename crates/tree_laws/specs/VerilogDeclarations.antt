@@ -11,6 +11,7 @@ use Rattle.v_tree.specs.declared.item.NetKind.TheVariants as NetKind
 use Rattle.v_tree.specs.declared.item.RegisterForm.TheVariants as RegisterForm
 use Rattle.tree_laws.specs.VerilogWords.{at, named, a, b, x, y, decimal, range, declared, given, parameter, parameters, wires, register, registers, integers, ports, port, direction, assigned, assigns, always, connection, instance, instances, stored, HasItem, HasParts}
 
+-- small modules, and the items and headers in them
 pub record DeclarationTrees : Type 0 where
   -- what a process waits for
   pub any_change : HasItem (codes "module m; always @* ; endmodule") (always 11 Event.All (Stmt.Empty (at 21)))

@@ -8,6 +8,7 @@ use Rattle.v_tree.specs.declared.expr.Literal.TheVariants as Literal
 use Rattle.v_tree.specs.declared.expr.Selection.TheVariants as Selection
 use Rattle.tree_laws.specs.VerilogWords.{at, named, digits, a, b, c, d, e, f, i, decimal, based, binary, unary, HasValue}
 
+-- expressions in small texts, and their trees
 pub record ExpressionTrees : Type 0 where
   -- each level binds more tightly than the one before
   pub logical_levels : HasValue (codes "module m; wire x = a ? b : c || d && e | f; endmodule")

@@ -11,6 +11,7 @@ use Rattle.v_tree.specs.declared.stmt.CaseItem.TheVariants as CaseItem
 use Rattle.v_tree.specs.declared.stmt.CaseKind.TheVariants as CaseKind
 use Rattle.tree_laws.specs.VerilogWords.{at, named, digits, a, b, i, decimal, based, binary, blocking, nonblocking, loop, stored, HasStatement}
 
+-- statements in small texts, and their trees
 pub record StatementTrees : Type 0 where
   -- `else` belongs to the nearest `if`
   pub nearest_if : HasStatement (codes "module m; initial if (a) if (b) x = 1; else x = 2; endmodule")

@@ -40,7 +40,6 @@ use Rattle.v_tree.specs.declared.stmt.Target.{Target}
 use Rattle.v_tree.specs.declared.stmt.Target as target
 use Rattle.v_tree.specs.Starts.{literal_start, expr_start, target_start, stmt_start, values_start}
 
--- a node with nothing inside
 abbrev pub leaf : Place → Trees
 leaf place = one place none
 
@@ -49,7 +48,6 @@ abbrev pub all_trees : {A : Type 0} → (A → Trees) → List A → Trees
 all_trees trees [] = none
 all_trees trees (x ∷ xs) = also (trees x) (all_trees trees xs)
 
--- the trees of what may be left out
 abbrev pub option_trees : {A : Type 0} → (A → Trees) → Option A → Trees
 option_trees trees None = none
 option_trees trees (Some x) = trees x

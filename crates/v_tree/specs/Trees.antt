@@ -9,12 +9,10 @@ pub data Trees : Type 0 where
   none : Trees
   node : (place : Place) → (inside after : Trees) → Trees
 
--- the greatest depth of a node, where roots stand 1 deep
 abbrev pub height : Trees → ℕ
 height none = 0
 height (node p a b) = max (1 + height a) (height b)
 
--- the trees of both, side by side
 abbrev pub also : Trees → Trees → Trees
 also none g = g
 also (node p a b) g = node p a (also b g)
