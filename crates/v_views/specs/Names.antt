@@ -213,7 +213,7 @@ module _ {E : Type 0} (l : Language E) where
     items_assign by (stmt.more_of-CaseItem (item.Values' ps _ (stmt.more_of-Stmt a _)) rest) x = assigns by a x || items_assign by rest x
     items_assign by (stmt.more_of-CaseItem (item.Default' p _ (stmt.more_of-Stmt a _)) rest) x = assigns by a x || items_assign by rest x
 
-  -- the names that are assigned somewhere by `=`, or by `<=`
+  -- the names in a target
   abbrev mutual
     pub target_names : Target E → ℕ → Bool
     target_names (target.Signal p g s) h = eqb g h
@@ -223,6 +223,7 @@ module _ {E : Type 0} (l : Language E) where
     parts_name target.end_of-Target h = false
     parts_name (target.more_of-Target t rest) h = target_names t h || parts_name rest h
 
+  -- the names that a statement assigns somewhere by `=`, or by `<=`
   abbrev mutual
     pub names : AssignmentKind → Stmt E → ℕ → Bool
     names by (stmt.Block' p _ body) g = row_names by body g

@@ -20,7 +20,7 @@ pub record AreCopies (new from : Graph) (ids : List ℕ) (k : ℕ) : Type 0 wher
   pub there : (j : ℕ) → j < k → slice_index ids j < length new.terms
   pub widths : (j : ℕ) → j < k → width_in new (slice_index ids j) ≡ width_in from j
 
--- a node, with other terms for its parts
+-- the term that the list has at the place of another
 abbrev pub moved : List ℕ → TermId → TermId
 moved ids t = record { 0 = slice_index ids t.0 }
 
