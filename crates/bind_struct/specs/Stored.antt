@@ -26,22 +26,27 @@ abbrev mutual
   stored_in f SetInputs = []
   stored_in f (NextFrame prop) = []
 
+  -- statements one after another
   pub stored_row : {m : _} → (TTarget → List Offence) → Row_of-TStmt m → List Offence
   stored_row f end_of-TStmt = []
   stored_row f (more_of-TStmt p a rest) = stored_in f a ++ stored_row f rest
 
+  -- the `else` part of an `if`, or the last part of a `for`, if there is one
   pub stored_other : (TTarget → List Offence) → Held-SNode-If-2 → List Offence
   stored_other f None' = []
   stored_other f (Some' _ (more_of-TStmt p a _)) = stored_in f a
 
+  -- the first part of a loop, its body, then its last part
   pub stored_loop : (TTarget → List Offence) → TLoop → List Offence
   stored_loop f (TLoop' tests_first _ heads cond step _ (more_of-TStmt p body _) prop) =
       stored_row f heads ++ (stored_in f body ++ stored_other f step)
 
+  -- the groups of a switch, in order
   pub stored_groups : {m : _} → (TTarget → List Offence) → Row_of-Group m → List Offence
   stored_groups f end_of-Group = []
   stored_groups f (more_of-Group g rest) = stored_group f g ++ stored_groups f rest
 
+  -- the statements behind labels
   pub stored_group : (TTarget → List Offence) → Group → List Offence
   stored_group f (Group' labels _ row) = stored_row f row
 

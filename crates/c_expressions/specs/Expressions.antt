@@ -91,10 +91,12 @@ binary_type (meaning.Shift op) t u = promoted t
 
 -- the type of an expression; a path with an offence has the type `int`
 abbrev mutual
+  -- the type of what a path leads to
   pub path_type : List Scope → Path → IntType
   path_type env (path.Object o) = type_found (found env false o)
   path_type env (path.Element' o p _ (path.more_of-Expression e _)) = type_found (found env true o)
 
+  -- each operator's result has the type that its clause says (C99 6.5)
   pub type_of : List Scope → Expression → IntType
   type_of env (expression.Integer p spelled) = type_or_int (literal_of spelled).ty
   type_of env (expression.Character p value) = int
@@ -111,10 +113,12 @@ abbrev mutual
 
 -- the offences in an expression that is used as a value
 abbrev mutual
+  -- the name comes before the index
   pub path_offences : List Scope → Path → List Offence
   path_offences env (path.Object o) = value_offences o.name.place (found env false o)
   path_offences env (path.Element' o p _ (path.more_of-Expression e _)) = value_offences o.name.place (found env true o) ++ offences_in env e
 
+  -- each literal and path, from left to right
   pub offences_in : List Scope → Expression → List Offence
   offences_in env (expression.Integer p spelled) = literal_offences p (literal_of spelled).ty
   offences_in env (expression.Character p value) = []
@@ -150,10 +154,12 @@ bounds_site p = (record { kind = kind.Bounds; place = p }) ∷ []
 
 -- the properties in an expression, in the order in which their checks are met
 abbrev mutual
+  -- the index comes before its bounds
   pub path_sites : List Scope → Path → List Site
   path_sites env (path.Object o) = []
   path_sites env (path.Element' o p _ (path.more_of-Expression e _)) = sites_in env e ++ bounds_site p
 
+  -- the operands come before their operator
   pub sites_in : List Scope → Expression → List Site
   sites_in env (expression.Integer p spelled) = []
   sites_in env (expression.Character p value) = []
@@ -239,11 +245,13 @@ choice_typed c x y =
 
 -- the typed form of an expression, where so many properties stand before it
 abbrev mutual
+  -- an element has the property of its bounds behind those of its index
   pub path_typed : List Scope → (base : ℕ) → Path → TExpr
   path_typed env base (path.Object o) = object_typed o.name.place (found env false o)
   path_typed env base (path.Element' o p _ (path.more_of-Expression e _)) =
       element_typed o.name.place (found env true o) (typed_of env base e) (base + length (sites_in env e))
 
+  -- each operator has its operands converted
   pub typed_of : List Scope → (base : ℕ) → Expression → TExpr
   typed_of env base (expression.Integer p spelled) = constant_typed p (type_or_int (literal_of spelled).ty) (literal_of spelled).value
   typed_of env base (expression.Character p value) = constant_typed p int value

@@ -144,10 +144,12 @@ binary_operated (meaning.Shift op) t u p x right =
 
 -- the value of an expression without offences
 abbrev mutual
+  -- an object's value, or that of an element once its index is evaluated
   pub path_value : List Scope → Rows → Path → CAnswer
   path_value env rows (path.Object o) = Gives (value_found rows (found env false o))
   path_value env rows (path.Element' o p _ (path.more_of-Expression e _)) = element_found rows (found env true o) p (c_value env rows e)
 
+  -- operands first, then the check of the operator; `&&`, `||` and `?:` leave out what they do not need (C99 6.5.13 to 6.5.15)
   pub c_value : List Scope → Rows → Expression → CAnswer
   c_value env rows (expression.Integer p spelled) = Gives (pos (literal_of spelled).value)
   c_value env rows (expression.Character p value) = Gives (pos value)

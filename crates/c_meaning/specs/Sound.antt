@@ -32,10 +32,12 @@ AreProps all p = (i : ℕ) (s : Site) → slice_get all i ≡ Some s → (x : Pr
 
 -- each character is a byte
 abbrev mutual
+  -- in the index of a path
   pub PathBytes : Path → Type 0
   PathBytes (path.Object o) = Unit {0}
   PathBytes (path.Element' o p _ (path.more_of-Expression e _)) = AreBytes e
 
+  -- in an expression
   pub AreBytes : Expression → Type 0
   AreBytes (expression.Integer p spelled) = Unit {0}
   AreBytes (expression.Character p value) = value < 256

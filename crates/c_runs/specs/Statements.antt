@@ -143,6 +143,7 @@ abbrev mutual
   after_items g calls h statement.end_of-BlockItem s c = idle s c
   after_items g calls h (statement.more_of-BlockItem x row) s c = then_do (after_item g calls h x s c) (after_items g calls (past_item x h) row)
 
+  -- a declaration or a statement in a block
   pub after_item : Given → Calls → Here → BlockItem → Onward
   after_item g calls h (block_item.Local l) s c = after_local g calls h l s c
   after_item g calls h (block_item.Statement x) s c = c_after g calls h x s c

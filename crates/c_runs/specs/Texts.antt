@@ -117,18 +117,22 @@ abbrev mutual
   objects_in (statement.CproverAssert p e) = 0
   objects_in (statement.CproverAssume p e) = 0
 
+  -- those that the items of a block declare
   pub objects_in_items : {m : _} → statement.Row_of-BlockItem m → ℕ
   objects_in_items statement.end_of-BlockItem = 0
   objects_in_items (statement.more_of-BlockItem x row) = objects_in_item x + objects_in_items row
 
+  -- those that a declaration declares, or a statement
   pub objects_in_item : BlockItem → ℕ
   objects_in_item (block_item.Local l) = length l.declarators
   objects_in_item (block_item.Statement s) = objects_in s
 
+  -- those that the groups of a `switch` declare
   pub objects_in_groups : {m : _} → statement.Row_of-Group m → ℕ
   objects_in_groups statement.end_of-Group = 0
   objects_in_groups (statement.more_of-Group p labels _ body row) = objects_in_statements body + objects_in_groups row
 
+  -- those that statements declare
   pub objects_in_statements : {m : _} → statement.Row_of-Statement m → ℕ
   objects_in_statements statement.end_of-Statement = 0
   objects_in_statements (statement.more_of-Statement s row) = objects_in s + objects_in_statements row

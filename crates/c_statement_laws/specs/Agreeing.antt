@@ -147,18 +147,22 @@ abbrev mutual
   StatementBytes (statement.CproverAssert p e) = AreBytes e
   StatementBytes (statement.CproverAssume p e) = AreBytes e
 
+  -- in the statements of the groups of a `switch`, each of which has some label
   pub GroupsBytes : {m : _} → statement.Row_of-Group m → Type 0
   GroupsBytes statement.end_of-Group = Unit {0}
   GroupsBytes (statement.more_of-Group p labels _ body row) = (0 < length labels) × StmtsBytes body × GroupsBytes row
 
+  -- in statements
   pub StmtsBytes : {m : _} → statement.Row_of-Statement m → Type 0
   StmtsBytes statement.end_of-Statement = Unit {0}
   StmtsBytes (statement.more_of-Statement x row) = StatementBytes x × StmtsBytes row
 
+  -- in a declaration or a statement of a block
   pub ItemBytes : BlockItem → Type 0
   ItemBytes (block_item.Local l) = LocalBytes l
   ItemBytes (block_item.Statement s) = StatementBytes s
 
+  -- in the items of a block
   pub RowBytes : {m : _} → statement.Row_of-BlockItem m → Type 0
   RowBytes statement.end_of-BlockItem = Unit {0}
   RowBytes (statement.more_of-BlockItem x row) = ItemBytes x × RowBytes row

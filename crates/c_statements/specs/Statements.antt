@@ -295,24 +295,29 @@ abbrev mutual
   known_after (statement.CproverAssert p e) k = after_expression e (own kind.Assertion p k)
   known_after (statement.CproverAssume p e) k = after_expression e k
 
+  -- after the groups of a `switch`
   pub known_after_groups : {m : _} → statement.Row_of-Group m → Known → Known
   known_after_groups statement.end_of-Group k = k
   known_after_groups (statement.more_of-Group p labels _ body row) k = known_after_groups row (known_after_stmts body k)
 
+  -- after statements
   pub known_after_stmts : {m : _} → statement.Row_of-Statement m → Known → Known
   known_after_stmts statement.end_of-Statement k = k
   known_after_stmts (statement.more_of-Statement x row) k = known_after_stmts row (known_after x k)
 
+  -- after a declaration or a statement of a block
   pub known_after_item : BlockItem → Known → Known
   known_after_item (block_item.Local l) k = local_known l k
   known_after_item (block_item.Statement s) k = known_after s k
 
+  -- after the items of a block
   pub known_after_row : {m : _} → statement.Row_of-BlockItem m → Known → Known
   known_after_row statement.end_of-BlockItem k = k
   known_after_row (statement.more_of-BlockItem x row) k = known_after_row row (known_after_item x k)
 
 -- what a statement, and all that stands in it, offends, in the order of the text
 abbrev mutual
+  -- expressions come before the statements that they steer, but for the condition of a `do`
   pub offences_of : Around → Known → Statement → List Offence
   offences_of a k (statement.Compound' p _ items) = row_offences a (enter k) items
   offences_of a k (statement.Empty p) = []
@@ -337,19 +342,23 @@ abbrev mutual
   offences_of a k (statement.CproverAssert p e) = offences_in k.scopes e
   offences_of a k (statement.CproverAssume p e) = offences_in k.scopes e
 
+  -- the groups of a `switch`, where these labels stood before
   pub groups_offences : {m : _} → Around → Known → IntType → (seen : List TLabel) → statement.Row_of-Group m → List Offence
   groups_offences a k t seen statement.end_of-Group = []
   groups_offences a k t seen (statement.more_of-Group p labels _ body row) =
       labels_offences k.scopes t seen labels ++ (stmts_offences a k body ++ groups_offences a (known_after_stmts body k) t (seen ++ labels_typed t labels) row)
 
+  -- statements, in order
   pub stmts_offences : {m : _} → Around → Known → statement.Row_of-Statement m → List Offence
   stmts_offences a k statement.end_of-Statement = []
   stmts_offences a k (statement.more_of-Statement x row) = offences_of a k x ++ stmts_offences a (known_after x k) row
 
+  -- a declaration or a statement of a block
   pub item_offences : Around → Known → BlockItem → List Offence
   item_offences a k (block_item.Local l) = local_offences k l
   item_offences a k (block_item.Statement s) = offences_of a k s
 
+  -- the items of a block, in order
   pub row_offences : {m : _} → Around → Known → statement.Row_of-BlockItem m → List Offence
   row_offences a k statement.end_of-BlockItem = []
   row_offences a k (statement.more_of-BlockItem x row) = item_offences a k x ++ row_offences a (known_after_item x k) row
@@ -407,18 +416,22 @@ abbrev mutual
   stmt_typed a k (statement.CproverAssert p e) = assert_typed p k e
   stmt_typed a k (statement.CproverAssume p e) = stmt_at p (Assume (typed_of k.scopes (length k.sites) e))
 
+  -- the groups of a `switch` over an expression of this promoted type
   pub groups_typed : {m : _} → Around → Known → IntType → statement.Row_of-Group m → List TGroup
   groups_typed a k t statement.end_of-Group = []
   groups_typed a k t (statement.more_of-Group p labels _ body row) = group_typed (labels_typed t labels) (stmts_typed a k body) ∷ groups_typed a (known_after_stmts body k) t row
 
+  -- statements, in order
   pub stmts_typed : {m : _} → Around → Known → statement.Row_of-Statement m → List TStmt
   stmts_typed a k statement.end_of-Statement = []
   stmts_typed a k (statement.more_of-Statement x row) = stmt_typed a k x ∷ stmts_typed a (known_after x k) row
 
+  -- a declaration is one statement for each declarator
   pub item_typed : Around → Known → BlockItem → List TStmt
   item_typed a k (block_item.Local l) = local_typed k l
   item_typed a k (block_item.Statement s) = stmt_typed a k s ∷ []
 
+  -- the items of a block, in order
   pub row_typed : {m : _} → Around → Known → statement.Row_of-BlockItem m → List TStmt
   row_typed a k statement.end_of-BlockItem = []
   row_typed a k (statement.more_of-BlockItem x row) = item_typed a k x ++ row_typed a (known_after_item x k) row

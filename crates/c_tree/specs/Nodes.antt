@@ -44,10 +44,12 @@ leaf p = one p none
 
 -- the nodes of a path and of an expression
 abbrev mutual
+  -- a path without an index is a leaf; with one, its index stands inside it
   pub path_trees : Path → Trees
   path_trees (path.Object o) = leaf o.name.place
   path_trees (path.Element' o p _ (path.more_of-Expression e _)) = one o.name.place (expression_trees e)
 
+  -- an operator, a cast and a pair of parentheses have their operands inside
   pub expression_trees : Expression → Trees
   expression_trees (expression.Integer p spelled) = leaf p
   expression_trees (expression.Character p value) = leaf p
@@ -113,7 +115,9 @@ first_trees for_first.Nothing = none
 first_trees (for_first.Local l) = local_trees l
 first_trees (for_first.Simple s) = simple_trees s
 
+-- the nodes of a statement, and of the lists in it
 abbrev mutual
+  -- a statement is a node, and its parts stand inside it
   pub statement_trees : Statement → Trees
   statement_trees (statement.Compound' p _ items) = one p (item_row items)
   statement_trees (statement.Empty p) = leaf p
@@ -132,18 +136,22 @@ abbrev mutual
   statement_trees (statement.CproverAssert p e) = one p (expression_trees e)
   statement_trees (statement.CproverAssume p e) = one p (expression_trees e)
 
+  -- a declaration in a block has a node for each name; a statement is one
   pub item_trees : BlockItem → Trees
   item_trees (block_item.Local l) = local_trees l
   item_trees (block_item.Statement s) = statement_trees s
 
+  -- the items of a block
   pub item_row : {m : _} → statement.Row_of-BlockItem m → Trees
   item_row statement.end_of-BlockItem = none
   item_row (statement.more_of-BlockItem x row) = also (item_trees x) (item_row row)
 
+  -- a group is a node, with its labels and statements inside
   pub group_row : {m : _} → statement.Row_of-Group m → Trees
   group_row statement.end_of-Group = none
   group_row (statement.more_of-Group p labels _ body row) = also (one p (also (all_trees label_trees labels) (statement_row body))) (group_row row)
 
+  -- statements, in order
   pub statement_row : {m : _} → statement.Row_of-Statement m → Trees
   statement_row statement.end_of-Statement = none
   statement_row (statement.more_of-Statement x row) = also (statement_trees x) (statement_row row)

@@ -116,6 +116,7 @@ abbrev mutual
   after_other k calls None' s c = Goes Next s nothing c
   after_other k calls (Some' _ (more_of-TStmt p a _)) s c = after k calls p a s c
 
+  -- the first part of a loop, then its turns, at most as many as its limit allows
   pub after_loop : Setting → Calls → TLoop → Onward
   after_loop k calls (TLoop' tests_first _ heads cond step _ (more_of-TStmt p body _) prop) s c =
       then_do (after_row k calls heads s c)
@@ -128,6 +129,7 @@ abbrev mutual
   groups_from k calls zero (more_of-Group g rest) s c = then_do (after_group k calls g s c) (groups_from k calls zero rest)
   groups_from k calls (suc i) (more_of-Group g rest) s c = groups_from k calls i rest s c
 
+  -- the statements behind labels
   pub after_group : Setting → Calls → Group → Onward
   after_group k calls (Group' labels _ row) s c = after_row k calls row s c
 

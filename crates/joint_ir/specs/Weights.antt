@@ -227,7 +227,7 @@ frame_weight p =
 abbrev pub turns_weight : (n condition turn : ℕ) → ℕ
 turns_weight n condition turn = n * (condition + turn + 16) + condition + 16
 
--- what a statement weighs, with the parts that hold statements again; a statement that steers weighs at least 16
+-- what a statement weighs, with all that stands in it
 abbrev mutual
   pub weight : Setting → CallWeights → SNode → ℕ
   weight k calls (Block' _ row) = row_weight k calls row + 16
@@ -247,14 +247,17 @@ abbrev mutual
   weight k calls SetInputs = drive_weight k.pair
   weight k calls (NextFrame prop) = frame_weight k.pair
 
+  -- statements one after another
   pub row_weight : {m : _} → Setting → CallWeights → Row_of-TStmt m → ℕ
   row_weight k calls end_of-TStmt = 0
   row_weight k calls (more_of-TStmt p a rest) = weight k calls a + row_weight k calls rest
 
+  -- the `else` part of an `if`, or the last part of a `for`, if there is one
   pub other_weight : Setting → CallWeights → Held-SNode-If-2 → ℕ
   other_weight k calls None' = 0
   other_weight k calls (Some' _ (more_of-TStmt p a _)) = weight k calls a
 
+  -- the first part of a loop, and as many turns as its limit allows
   pub loop_weight : Setting → CallWeights → TLoop → ℕ
   loop_weight k calls (TLoop' tests_first _ heads cond step _ (more_of-TStmt p body _) prop) =
       row_weight k calls heads
@@ -265,6 +268,7 @@ abbrev mutual
   groups_weight k calls w end_of-Group = 0
   groups_weight k calls w (more_of-Group g rest) = group_weight k calls w g + groups_weight k calls w rest
 
+  -- each label is compared with the number, then come the statements
   pub group_weight : Setting → CallWeights → (w : ℕ) → Group → ℕ
   group_weight k calls w (Group' labels _ row) = length labels * (4 * w + 16) + row_weight k calls row
 

@@ -385,10 +385,12 @@ abbrev mutual
   FitsRow c end_of-TStmt = Unit {0}
   FitsRow c (more_of-TStmt p a rest) = FitsStmt c a × FitsRow (with_scope_locals c (declared_behind a c.locals)) rest
 
+  -- the `else` part of an `if`, if there is one
   pub FitsOther : Scope → Held-SNode-If-2 → Type 0
   FitsOther c None' = Unit {0}
   FitsOther c (Some' _ (more_of-TStmt p a _)) = FitsStmt c a
 
+  -- the last part of a `for`, if there is one, is a simple statement
   pub FitsStep : Scope → Held-SNode-If-2 → Type 0
   FitsStep c None' = Unit {0}
   FitsStep c (Some' _ (more_of-TStmt p a _)) = IsTrue (is_simple a) × FitsStmt c a
@@ -399,10 +401,12 @@ abbrev mutual
       let inner = in_a_loop (with_scope_locals c (behind_row heads c.locals)) in
       FitsRow c heads × IsTrue (is_loop tests_first heads cond step) × FitsOption inner cond × FitsStep inner step × FitsStmt inner body × IsProp c.program kind.Unwind prop
 
+  -- each group of a switch over an expression of this type
   pub FitsGroups : {m : _} → Scope → IntType → Row_of-Group m → Type 0
   FitsGroups c t end_of-Group = Unit {0}
   FitsGroups c t (more_of-Group g rest) = FitsGroup c t g × FitsGroups c t rest
 
+  -- some label, constants of the type, and statements that fit
   pub FitsGroup : Scope → IntType → Group → Type 0
   FitsGroup c t (Group' labels _ row) = (0 < length labels) × All (FitsLabel t) labels × FitsRow c row
 
@@ -425,21 +429,26 @@ abbrev mutual
   declared_in SetInputs = []
   declared_in (NextFrame prop) = []
 
+  -- statements one after another
   pub declared_in_row : {m : _} → Row_of-TStmt m → List ℕ
   declared_in_row end_of-TStmt = []
   declared_in_row (more_of-TStmt p a rest) = declared_in a ++ declared_in_row rest
 
+  -- the `else` part of an `if`, if there is one
   pub declared_in_other : Held-SNode-If-2 → List ℕ
   declared_in_other None' = []
   declared_in_other (Some' _ (more_of-TStmt p a _)) = declared_in a
 
+  -- the first part of a loop, and its body; the last part declares nothing
   pub declared_in_loop : TLoop → List ℕ
   declared_in_loop (TLoop' tests_first _ heads cond step _ (more_of-TStmt p body _) prop) = declared_in_row heads ++ declared_in body
 
+  -- the groups of a switch, in order
   pub declared_in_groups : {m : _} → Row_of-Group m → List ℕ
   declared_in_groups end_of-Group = []
   declared_in_groups (more_of-Group g rest) = declared_in_group g ++ declared_in_groups rest
 
+  -- the statements behind labels
   pub declared_in_group : Group → List ℕ
   declared_in_group (Group' labels _ row) = declared_in_row row
 
