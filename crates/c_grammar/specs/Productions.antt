@@ -4,6 +4,7 @@ use Rattle.std.specs.Prelude.{List, [], ◌∷◌}
 use Rattle.ll_parse.specs.Productions.{Production, ◌⟶◌, nothing_but_before}
 use Rattle.c_grammar.specs.Symbols.{AfterLabel, AfterName, AfterSign, AfterStmt, Ampersand, AmpersandBecomes, Args, ArrayInit, Assert, Assign, AssignOp, Bang, Bar, BarBecomes, Becomes, Block, Bool, Break, Caret, CaretBecomes, Case, Char, Character, CloseBrace, CloseBracket, CloseParenthesis, Colon, Comma, Const, Continue, CproverAssert, CproverAssume, Decl, DeclRest, Decrement, Default, Do, Dot, Else, ElseOpt, Equal, EqualOp, Expr, ExprOpt, Extern, ExternRest, External, Externals, False, File, For, ForFirst, ForSimple, FunctionEnd, FunctionRest, Greater, GreaterEqual, Groups, Identifier, If, Increment, Init, InitOpt, InitRest, Int, Int16, Int32, Int64, Int8, IntOpt, Integer, IntegerType, Item, ItemRest, Label, Less, LessEqual, Local, LogicalAnd, LogicalOr, Long, LongOpt, Member, Minus, MinusBecomes, MoreArgs, MoreDecls, MoreElements, MoreExternals, MoreItems, MoreMembers, MoreNames, MoreParams, NextElement, NotEqual, OpenBrace, OpenBracket, OpenParenthesis, OrderOp, Param, ParamName, Params, Paren, Parts, Path, PathRest, Percent, PercentBecomes, Plus, PlusBecomes, ProductOp, Question, Return, Semicolon, ShiftLeft, ShiftLeftBecomes, ShiftOp, ShiftRight, ShiftRightBecomes, Short, Sign, Signed, Simple, SimpleOpt, SimpleRest, Slash, SlashBecomes, Star, StarBecomes, Static, StaticRest, Step, Stmt, StringLiteral, Struct, SumOp, Switch, T0, T1, T10, T2, T3, T4, T5, T6, T7, T8, T9, Tilde, True, U1, U10, U2, U3, U4, U5, U6, U7, U8, U9, Uint16, Uint32, Uint64, Uint8, Unary, UnaryNoId, UnaryOp, UnderscoreBool, Unsigned, Void, While}
 
+-- all productions, in the order of their numbers
 unfoldable pub PRODUCTIONS : List Production
 PRODUCTIONS =
     -- File = Externals

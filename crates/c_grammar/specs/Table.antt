@@ -2,6 +2,7 @@
 use Rattle.ll_parse.specs.Tables.{Lists}
 use Rattle.c_grammar.specs.declared.TheConstants.{HEADS, BODIES, SYMBOLS, NOT_BEFORE, ROWS, FOLLOWS, WITNESSES, RANKS, COSTS, NULLABLE}
 
+-- the table by which a text of tokens is read
 unfoldable pub TABLE : Lists
 TABLE = record {
   start = 256;

@@ -39,6 +39,7 @@ use Rattle.c_stack.specs.declared.values.StatementValue.TheVariants as statement
 use Rattle.c_stack.specs.declared.values.SwitchValue.TheVariants as switch_value
 use Rattle.c_stack.specs.declared.values.FileValue.TheVariants as file_value
 
+-- a stack of values, the top first
 abbrev pub Values : Type 0
 Values = List Value
 

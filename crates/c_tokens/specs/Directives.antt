@@ -60,6 +60,7 @@ module _ (text : List ℕ) where
   abbrev pub is_on_line_of : Token → Token → Bool
   is_on_line_of t u = nat_lt u.start (t.start + line_len (drop t.start text))
 
+  -- the tokens of the first line
   abbrev pub first_line : List Token → List Token
   first_line [] = []
   first_line (t ∷ ts) = t ∷ take_while (is_on_line_of t) ts
@@ -80,6 +81,7 @@ module _ (text : List ℕ) where
       is_kind Less less && is_header (spelling header) && is_kind Dot dot && bytes_eq (spelling h) (codes "h") && is_kind Greater greater
   is_file _ = false
 
+  -- `#include` and a header's file
   abbrev pub is_include : List Token → Bool
   is_include (hash ∷ include ∷ file) = bytes_eq (spelling include) (codes "include") && is_file file
   is_include _ = false

@@ -58,6 +58,7 @@ module _ (names : Scope) where
     stmt_writes (stmt.IfElse' place condition _ body _ other) turns = []
     stmt_writes (stmt.Case' place kind value _ items) turns = []
 
+    -- statements one after another
     pub row_writes : {m : _} → stmt.Row_of-Stmt m → List Turn → List FirstWrite
     row_writes stmt.end_of-Stmt turns = []
     row_writes (stmt.more_of-Stmt s rest) turns = stmt_writes s turns ++ row_writes rest turns
@@ -68,9 +69,11 @@ module _ (names : Scope) where
   form_writes x (form.Initialized e) = write_of names [] (find_in names x.name) 0 e
   form_writes x (form.Memory range) = []
 
+  -- a register of a declaration
   abbrev pub register_writes : Register → List FirstWrite
   register_writes r = form_writes r.name r.form
 
+  -- the value that an output has in its declaration, if it has one
   abbrev pub value_writes : Identifier → Option Expr → List FirstWrite
   value_writes x None = []
   value_writes x (Some e) = write_of names [] (find_in names x.name) 0 e
@@ -79,15 +82,18 @@ module _ (names : Scope) where
   abbrev pub declarator_writes : Declarator → List FirstWrite
   declarator_writes d = value_writes d.name d.value
 
+  -- the names of one port declaration
   abbrev pub port_writes : Port → List FirstWrite
   port_writes p = flat_map declarator_writes p.names
 
+  -- the ports of a module's head
   abbrev pub header_writes : Header → List FirstWrite
   header_writes header.Absent = []
   header_writes header.Empty = []
   header_writes (header.Names xs) = []
   header_writes (header.Ports ports) = flat_map port_writes ports
 
+  -- the declarations of registers, and the `initial` statements; no other item writes a first value
   abbrev pub item_writes : Item → List FirstWrite
   item_writes (item.Reg d) = flat_map register_writes d.registers
   item_writes (item.Initial place body) = stmt_writes body []

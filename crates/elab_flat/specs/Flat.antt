@@ -27,6 +27,7 @@ module _ (names : Scope) (turns : List Turn) where
   known most e = up_to most (number_of (constant_of names turns e))
 
   abbrev mutual
+    -- names become signals or the numbers that they stand for; all else keeps its form
     pub flat_expr : Expr → FlatExpr
     flat_expr (expr.Literal l) = flat.Literal (literal_number l)
     flat_expr (expr.Name x) = flat_name turns x.place (find_in names x.name)
@@ -40,12 +41,14 @@ module _ (names : Scope) (turns : List Turn) where
     flat_expr (expr.Signed' place _ (expr.more_of-Expr p _)) = flat.Signed place (flat_expr p)
     flat_expr (expr.Unsigned' place _ (expr.more_of-Expr p _)) = flat.Unsigned place (flat_expr p)
 
+    -- a part's ends and the widths of `+:` and `-:` become numbers
     pub flat_selection : Selection → FlatSelection
     flat_selection (selection.Index' _ (expr.more_of-Expr i _)) = part.Bit (flat_expr i)
     flat_selection (selection.Range' _ (expr.more_of-Expr h _) _ (expr.more_of-Expr l _)) = part.Part (known 4294967295 h) (known 4294967295 l)
     flat_selection (selection.Up' _ (expr.more_of-Expr b _) _ (expr.more_of-Expr w _)) = part.Up (flat_expr b) (known 64 w)
     flat_selection (selection.Down' _ (expr.more_of-Expr b _) _ (expr.more_of-Expr w _)) = part.Down (flat_expr b) (known 64 w)
 
+    -- the parts of a concatenation, in order
     pub flat_parts : {m : _} → expr.Row_of-Expr m → List FlatExpr
     flat_parts expr.end_of-Expr = []
     flat_parts (expr.more_of-Expr p rest) = flat_expr p ∷ flat_parts rest
@@ -58,11 +61,13 @@ module _ (names : Scope) (turns : List Turn) where
   flat_which (selection.Down' _ (expr.more_of-Expr b _) _ (expr.more_of-Expr w _)) = which.Down (flat_expr b) (known 64 w)
 
   abbrev mutual
+    -- a name becomes the number of its signal, with the bits that are written
     pub flat_target : Target → written.Target FlatExpr
     flat_target (target.Name x) = made.Signal x.place (signal_number (find_in names x.name)) which.Whole
     flat_target (target.Select x s) = made.Signal x.place (signal_number (find_in names x.name)) (flat_which s)
     flat_target (target.Concatenation' place _ parts) = made.Concatenation place (target_parts parts)
 
+    -- the parts of a concatenation, in order
     pub target_parts : {m : _} → target.Row_of-Target m → List (written.Target FlatExpr)
     target_parts target.end_of-Target = []
     target_parts (target.more_of-Target t rest) = flat_target t ∷ target_parts rest

@@ -188,6 +188,7 @@ module _ (names : Scope) (turns : List Turn) where
     choice_of (selection.Up' _ (expr.more_of-Expr b _) _ (expr.more_of-Expr w _)) = choice.Up (number_of (by_itself (measured b))) (number_of (by_itself (measured w)))
     choice_of (selection.Down' _ (expr.more_of-Expr b _) _ (expr.more_of-Expr w _)) = choice.Down (number_of (by_itself (measured b))) (number_of (by_itself (measured w)))
 
+    -- the parts of a concatenation, each by itself
     pub part_standings : {m : _} → expr.Row_of-Expr m → List Standing
     part_standings expr.end_of-Expr = []
     part_standings (expr.more_of-Expr p rest) = by_itself (measured p) ∷ part_standings rest

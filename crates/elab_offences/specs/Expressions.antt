@@ -20,6 +20,7 @@ element_offences true e = []
 element_offences false e = []
 
 module _ (names : Scope) (turns : List Turn) where
+  -- an expression that has to be constant, and isn't
   abbrev pub varying : Expr → List Offence
   varying e = varying_offences (expr_start e) (worth_of (constant_of names turns e))
 
@@ -55,6 +56,7 @@ module _ (names : Scope) (turns : List Turn) where
     selection_offences fixed (selection.Down' _ (expr.more_of-Expr b _) _ (expr.more_of-Expr w _)) =
         expr_offences fixed b ++ ((expr_offences true w ++ varying w) ++ span_offences 64 w)
 
+    -- the parts of a concatenation, in order
     pub parts_offences : {m : _} → Bool → expr.Row_of-Expr m → List Offence
     parts_offences fixed expr.end_of-Expr = []
     parts_offences fixed (expr.more_of-Expr p rest) = (element_offences fixed p ++ expr_offences fixed p) ++ parts_offences fixed rest

@@ -17,6 +17,7 @@ module _ (names : Scope) (turns : List Turn) (register : Bool) where
     target_offences (target.Select x s) = part_target_offences register x.place (find_in names x.name) (choice_of names turns s) ++ selection_offences names turns false s
     target_offences (target.Concatenation' place _ parts) = target_parts_offences parts
 
+    -- the parts of a concatenation, in order
     pub target_parts_offences : {m : _} → target.Row_of-Target m → List Offence
     target_parts_offences target.end_of-Target = []
     target_parts_offences (target.more_of-Target t rest) = target_offences t ++ target_parts_offences rest

@@ -39,10 +39,12 @@ module _ (shapes : ℕ → Shape) where
   abbrev pub index_at : FlatExpr → ℤ
   index_at i = index_of (meant shapes i) blank 0
 
+  -- an index whose value no signal changes
   abbrev pub is_constant : FlatExpr → Bool
   is_constant i = own_fixed (meant shapes i)
 
   abbrev mutual
+    -- whether the value of an expression is looked up from a bit: each operand counts, also one that isn't chosen
     pub reads : FlatExpr → Spot → Bool
     reads (flat.Literal n) x = false
     reads (flat.Signal place g) x = is_bit_of (shape_of (shapes g)) g x
@@ -64,12 +66,14 @@ module _ (shapes : ℕ → Shape) where
     select_reads g (selection.Up' _ (flat.more_of-FlatExpr i _) n) x = if is_constant i then span_read g n (shapes g).low (index_at i) x else is_bit_of (shape_of (shapes g)) g x || reads i x
     select_reads g (selection.Down' _ (flat.more_of-FlatExpr i _) n) x = if is_constant i then span_read g n ((shapes g).low + (n - 1)) (index_at i) x else is_bit_of (shape_of (shapes g)) g x || reads i x
 
+    -- a select of a number reads what its index reads
     pub index_reads : FlatSelection → Spot → Bool
     index_reads (selection.Part high low) x = false
     index_reads (selection.Bit' _ (flat.more_of-FlatExpr i _)) x = reads i x
     index_reads (selection.Up' _ (flat.more_of-FlatExpr i _) n) x = reads i x
     index_reads (selection.Down' _ (flat.more_of-FlatExpr i _) n) x = reads i x
 
+    -- the parts of a concatenation
     pub parts_read : {m : _} → flat.Row_of-FlatExpr m → Spot → Bool
     parts_read flat.end_of-FlatExpr x = false
     parts_read (flat.more_of-FlatExpr a rest) x = reads a x || parts_read rest x

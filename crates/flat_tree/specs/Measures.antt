@@ -111,18 +111,21 @@ module _ (shapes : ℕ → Shape) where
     nodes_of (flat.Signed' place _ (flat.more_of-FlatExpr a _)) = 1 + nodes_of a
     nodes_of (flat.Unsigned' place _ (flat.more_of-FlatExpr a _)) = 1 + nodes_of a
 
+    -- a select of a signal, with its index
     pub select_nodes : ℕ → FlatSelection → ℕ
     select_nodes g (selection.Bit' _ (flat.more_of-FlatExpr i _)) = word_nodes (shapes g) (meant shapes i) + nodes_of i
     select_nodes g (selection.Part high low) = 1
     select_nodes g (selection.Up' _ (flat.more_of-FlatExpr i _) n) = 1 + nodes_of i
     select_nodes g (selection.Down' _ (flat.more_of-FlatExpr i _) n) = 1 + nodes_of i
 
+    -- the index of a select, if it has one
     pub index_nodes : FlatSelection → ℕ
     index_nodes (selection.Bit' _ (flat.more_of-FlatExpr i _)) = nodes_of i
     index_nodes (selection.Part high low) = 0
     index_nodes (selection.Up' _ (flat.more_of-FlatExpr i _) n) = nodes_of i
     index_nodes (selection.Down' _ (flat.more_of-FlatExpr i _) n) = nodes_of i
 
+    -- the parts of a concatenation
     pub parts_nodes : {m : _} → flat.Row_of-FlatExpr m → ℕ
     parts_nodes flat.end_of-FlatExpr = 0
     parts_nodes (flat.more_of-FlatExpr a rest) = nodes_of a + parts_nodes rest
@@ -152,6 +155,7 @@ module _ (shapes : ℕ → Shape) where
     weight_of (flat.Signed' place _ (flat.more_of-FlatExpr a _)) w = weight_of a (meant shapes a).length + node
     weight_of (flat.Unsigned' place _ (flat.more_of-FlatExpr a _)) w = weight_of a (meant shapes a).length + node
 
+    -- a select of a signal: its index, and the choice by it
     pub select_weight : ℕ → FlatSelection → ℕ
     select_weight g (selection.Bit' _ (flat.more_of-FlatExpr i _)) = weight_of i (meant shapes i).length + index_row (shapes g) (meant shapes i)
     select_weight g (selection.Part high low) = 0
@@ -159,6 +163,7 @@ module _ (shapes : ℕ → Shape) where
     select_weight g (selection.Down' _ (flat.more_of-FlatExpr i _) n) =
         weight_of i (meant shapes i).length + bits_row n (shapes g).bits ((shapes g).low + (n - 1)) (meant shapes i)
 
+    -- a select of a number: its index, and the choice by it
     pub number_weight : ℕ → ℕ → FlatSelection → ℕ
     number_weight w low (selection.Bit' _ (flat.more_of-FlatExpr i _)) = weight_of i (meant shapes i).length + bits_row 1 w low (meant shapes i)
     number_weight w low (selection.Part high from) = 0

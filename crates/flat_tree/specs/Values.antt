@@ -251,6 +251,7 @@ module _ (shapes : ℕ → Shape) where
     number_meant place c low (selection.Up' _ (flat.more_of-FlatExpr i _) n) = bits_by place n c.width low true (λ x. c.value) (meant i)
     number_meant place c low (selection.Down' _ (flat.more_of-FlatExpr i _) n) = bits_by place n c.width (low + (n - 1)) true (λ x. c.value) (meant i)
 
+    -- parts side by side, the first on the left (5.1.14)
     pub parts_meant : {m : _} → flat.Row_of-FlatExpr m → Meant
     parts_meant flat.end_of-FlatExpr = nothing
     parts_meant (flat.more_of-FlatExpr a rest) = beside (meant a) (parts_meant rest)
@@ -259,6 +260,7 @@ module _ (shapes : ℕ → Shape) where
   abbrev pub length_of : FlatExpr → ℕ
   length_of e = let m = meant e in m.length
 
+  -- whether it is signed by itself
   abbrev pub is_signed : FlatExpr → Bool
   is_signed e = let m = meant e in m.signed
 

@@ -89,6 +89,7 @@ IsIndex shapes i = own_fixed (meant shapes i) ≡ is_number i
 -- what is asked of a signal's number, and whether selects by an index, concatenations and replications are taken, are for the caller to say
 module _ (known : ℕ → Type 0) (by_index joined : Type 0) (shapes : ℕ → Shape) where
   abbrev mutual
+    -- an expression is taken: its signals, selects and widths are
     pub Fits : FlatExpr → Type 0
     Fits (flat.Literal n) = IsWord n.word
     Fits (flat.Signal place g) = known g × ((shapes g).words ≡ 0)
@@ -117,6 +118,7 @@ module _ (known : ℕ → Type 0) (by_index joined : Type 0) (shapes : ℕ → S
     FitsNumber w low (selection.Up' _ (flat.more_of-FlatExpr i _) n) = (w + n ≤ 128) × IsSpan n × Fits i × IsIndex shapes i × by_index
     FitsNumber w low (selection.Down' _ (flat.more_of-FlatExpr i _) n) = (w + n ≤ 128) × IsSpan n × Fits i × IsIndex shapes i × by_index
 
+    -- each part of a concatenation
     pub FitsParts : {m : _} → flat.Row_of-FlatExpr m → Type 0
     FitsParts flat.end_of-FlatExpr = Unit {0}
     FitsParts (flat.more_of-FlatExpr a rest) = Fits a × FitsParts rest

@@ -35,10 +35,12 @@ FitsSignal (Some signal) s = (signal.words ≡ 0) × (signal.bits ≤ 64) × Fit
 
 module _ (signals : List FlatSignal) where
   abbrev mutual
+    -- a target selects bits of vectors that are there, by indexes that are numbers where they are constant
     pub FitsTarget : Target FlatExpr → Type 0
     FitsTarget (target.Signal place g s) = FitsSignal (slice_get signals g) s × HasIndexes (shapes_of signals) s
     FitsTarget (target.Concatenation' place _ parts) = FitsParts parts
 
+    -- each part of a concatenation
     pub FitsParts : {m : _} → target.Row_of-Target FlatExpr m → Type 0
     FitsParts target.end_of-Target = Unit {0}
     FitsParts (target.more_of-Target t rest) = FitsTarget t × FitsParts rest
