@@ -47,7 +47,7 @@ main_name = codes "main"
 abbrev pub c_offences : CTree → List Offence
 c_offences tree = externals_offences (table_of tree.externals).names tree.externals (at_start tree.externals) ++ no_main_offences tree
 
--- the typed program, where all is known
+-- the typed program, of what is known behind the last external declaration
 abbrev pub program_with : FileKnown → (main : ℕ) → CProgram
 program_with f main = record {
   functions = f.made.functions;
