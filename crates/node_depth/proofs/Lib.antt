@@ -1,4 +1,4 @@
 pub mod ScanSteps
 pub mod PassSteps
 pub mod Also
-pub mod Woven
+pub mod PassNodes

@@ -1,5 +1,5 @@
 use Rattle.std.proofs.Common.{◌∙◌}
-use Rattle.node_depth.proofs.Woven.{found_woven}
+use Rattle.node_depth.proofs.PassNodes.{found_woven}
 use Rattle.node_depth.proofs.weave.too_deep.Goals as goal
 
 pub returns : goal.returns
