@@ -18,6 +18,7 @@ use Rattle.word_eqs.specs.Graph.{FitsNode, Graph, IsGraph, width_in}
 use Rattle.word_eqs.specs.Gates.{act_gates, gate_count, gates1, gates2, node_gates, step_gates, term_gates}
 use Rattle.word_eqs.specs.Guarded.{FitsAct, IsOrdered}
 use Rattle.word_eqs.proofs.Graphs.{width_of_term}
+use Rattle.gate_net.specs.Net.{MOST_NODES}
 
 pub gates1_small : (op : Op1) (w : ℕ) → w ≤ 128 → gates1 op w ≤ 1280
 gates1_small Not w h = omega arith
@@ -70,7 +71,7 @@ act_small g (Cut t) h f = let w = (width_of_term g t.0 h f).1 in omega arith
 act_small g (Prop p t) h f = let w = (width_of_term g t.0 h f).1 in omega arith
 
 -- so many terms and steps are always few enough
-pub few_gates : (g : Graph) (list : List Step) → IsGraph g → IsOrdered g list → length g.terms ≤ 4000 → length list ≤ 4000 → 1 + gate_count g list ≤ 2147483648
+pub few_gates : (g : Graph) (list : List Step) → IsGraph g → IsOrdered g list → length g.terms ≤ 4000 → length list ≤ 4000 → 1 + gate_count g list ≤ MOST_NODES
 few_gates g list h o l m =
     let t : term_gates g ≤ 272384 * length g.terms = sum_by_small (λ (x : Term). node_gates g x.node) 272384 g.terms (λ k x at. let w = slice_get_within g.terms k x at in node_small g k x.node h (omega arith) (h.terms k x at).fits) in
     let s : step_gates g list ≤ 136 * length list = sum_by_small (λ (s : Step). act_gates g s.act) 136 list (λ k s at. act_small g s.act h (o.steps k s at).act) in

@@ -28,6 +28,7 @@ use Rattle.bitblast.proofs.Inputs.{below_new_inputs, inputs_added, inputs_kept, 
 use Rattle.bitblast.proofs.Placing.{at_other, at_same}
 use Rattle.bitblast.proofs.Stepping.{IsNextStep, Does, broken_more, does_cut, does_prop, does_free, does_set, free_bits_first, free_bits_put, free_edges_push, free_edges_put, givers_push, live_more, next_step, same_var, step_gates_rest, ungiven}
 use Rattle.bitblast.proofs.Translating.{fits_put, wires_put, words_more}
+use Rattle.gate_net.specs.Net.{MOST_NODES}
 
 -- what stands for a term that a step names
 pub given_before : (g : Graph) (list : List Step) (k : ℕ) (s : Step) (m : Maker) (t : ℕ) → IsOrdered g list → IsAt g list k m → slice_get list k ≡ Some s → Contains (s.guard.0 ∷ act_terms s.act) t → (x : ℕ) → Uses g t x → IsMade m.wires x
@@ -214,13 +215,13 @@ at_free g list k s old new x width o h at e same some m =
 
 -- what a step may ask for
 
-pub room_at : (g : Graph) (list : List Step) (k : ℕ) (s : Step) (m : Maker) → IsAt g list k m → slice_get list k ≡ Some s → 1 + gate_count g list ≤ 2147483648 → length m.net + gates_left g g.terms m.words + act_gates g s.act ≤ 2147483648
+pub room_at : (g : Graph) (list : List Step) (k : ℕ) (s : Step) (m : Maker) → IsAt g list k m → slice_get list k ≡ Some s → 1 + gate_count g list ≤ MOST_NODES → length m.net + gates_left g g.terms m.words + act_gates g s.act ≤ MOST_NODES
 room_at g list k s m h at r =
     let n = step_gates_rest g list k s (next_step list k s at) in
     let c = h.count in
     omega arith
 
-pub free_room : (g : Graph) (list : List Step) (k : ℕ) (s : Step) (m : Maker) (x : VarId) → IsAt g list k m → slice_get list k ≡ Some s → 1 + gate_count g list ≤ 2147483648 → s.act ≡ Free x → length m.net + width_of_var g x.0 ≤ 2147483648
+pub free_room : (g : Graph) (list : List Step) (k : ℕ) (s : Step) (m : Maker) (x : VarId) → IsAt g list k m → slice_get list k ≡ Some s → 1 + gate_count g list ≤ MOST_NODES → s.act ≡ Free x → length m.net + width_of_var g x.0 ≤ MOST_NODES
 free_room g list k s m x h at r e =
     let l = room_at g list k s m h at r in
     let i : act_gates g s.act ≡ width_of_var g x.0 = ap (act_gates g) e in
@@ -233,7 +234,7 @@ set_there g list k s m x t o h at e =
     let q = fit.0 in
     omega arith
 
-pub set_wanted : (g : Graph) (list : List Step) (k : ℕ) (s : Step) (m : Maker) (x : VarId) (t : TermId) → IsOrdered g list → IsAt g list k m → slice_get list k ≡ Some s → 1 + gate_count g list ≤ 2147483648 → s.act ≡ Set x t → IsWanted m.net g m.wires m.words t.0 0
+pub set_wanted : (g : Graph) (list : List Step) (k : ℕ) (s : Step) (m : Maker) (x : VarId) (t : TermId) → IsOrdered g list → IsAt g list k m → slice_get list k ≡ Some s → 1 + gate_count g list ≤ MOST_NODES → s.act ≡ Set x t → IsWanted m.net g m.wires m.words t.0 0
 set_wanted g list k s m x t o h at r e =
     let fit : FitsAct g (Set x t) = subst (FitsAct g) e (o.steps k s at).act in
     let l = room_at g list k s m h at r in
@@ -244,7 +245,7 @@ set_wanted g list k s m x t o h at r e =
       room = omega arith;
     }
 
-pub test_at : (g : Graph) (list : List Step) (k : ℕ) (s : Step) (m : Maker) (t : ℕ) (breaks : Bool) → IsOrdered g list → IsAt g list k m → slice_get list k ≡ Some s → 1 + gate_count g list ≤ 2147483648 → IsEnding g s t breaks → t < length g.terms → Contains (s.guard.0 ∷ act_terms s.act) t → IsTest m.net g m.wires m.words s.guard.0 t
+pub test_at : (g : Graph) (list : List Step) (k : ℕ) (s : Step) (m : Maker) (t : ℕ) (breaks : Bool) → IsOrdered g list → IsAt g list k m → slice_get list k ≡ Some s → 1 + gate_count g list ≤ MOST_NODES → IsEnding g s t breaks → t < length g.terms → Contains (s.guard.0 ∷ act_terms s.act) t → IsTest m.net g m.wires m.words s.guard.0 t
 test_at g list k s m t breaks o h at r e l c =
     let room = room_at g list k s m h at r in
     let i = e.gates in
@@ -261,10 +262,10 @@ ends_cut g s t e = record { gates = ap (act_gates g) e; gives_none = λ x. ap (g
 pub ends_prop : (g : Graph) (s : Step) (p : ℕ) (t : TermId) → s.act ≡ Prop p t → IsEnding g s t.0 true
 ends_prop g s p t e = record { gates = ap (act_gates g) e; gives_none = λ x. ap (gives x) e; frees_none = λ w. ap (act_free w) e; does = λ v. does_prop v s p t e }
 
-pub test_cut : (g : Graph) (list : List Step) (k : ℕ) (s : Step) (m : Maker) (t : TermId) → IsOrdered g list → IsAt g list k m → slice_get list k ≡ Some s → 1 + gate_count g list ≤ 2147483648 → s.act ≡ Cut t → IsTest m.net g m.wires m.words s.guard.0 t.0
+pub test_cut : (g : Graph) (list : List Step) (k : ℕ) (s : Step) (m : Maker) (t : TermId) → IsOrdered g list → IsAt g list k m → slice_get list k ≡ Some s → 1 + gate_count g list ≤ MOST_NODES → s.act ≡ Cut t → IsTest m.net g m.wires m.words s.guard.0 t.0
 test_cut g list k s m t o h at r e =
     test_at g list k s m t.0 false o h at r (ends_cut g s t e) (subst (FitsAct g) e (o.steps k s at).act) (subst (λ a. Contains (s.guard.0 ∷ act_terms a) t.0) (sym e) (1, omega arith, refl))
 
-pub test_prop : (g : Graph) (list : List Step) (k : ℕ) (s : Step) (m : Maker) (p : ℕ) (t : TermId) → IsOrdered g list → IsAt g list k m → slice_get list k ≡ Some s → 1 + gate_count g list ≤ 2147483648 → s.act ≡ Prop p t → IsTest m.net g m.wires m.words s.guard.0 t.0
+pub test_prop : (g : Graph) (list : List Step) (k : ℕ) (s : Step) (m : Maker) (p : ℕ) (t : TermId) → IsOrdered g list → IsAt g list k m → slice_get list k ≡ Some s → 1 + gate_count g list ≤ MOST_NODES → s.act ≡ Prop p t → IsTest m.net g m.wires m.words s.guard.0 t.0
 test_prop g list k s m p t o h at r e =
     test_at g list k s m t.0 true o h at r (ends_prop g s p t e) (subst (FitsAct g) e (o.steps k s at).act) (subst (λ a. Contains (s.guard.0 ∷ act_terms a) t.0) (sym e) (1, omega arith, refl))

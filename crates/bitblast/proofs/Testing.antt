@@ -13,6 +13,7 @@ use Rattle.bitblast.specs.Wires.{AreWords, IsMade, edges_at}
 use Rattle.bitblast.specs.Making.{IsTest, IsWanted, Tests, Translates, fails}
 use Rattle.bitblast.proofs.NodeLaws.{one_bit}
 use Rattle.bitblast.proofs.Translating.{translates_more, translates_then, translates_within}
+use Rattle.gate_net.specs.Net.{MOST_NODES}
 
 pub guard_wanted : (o : List Node) (g : Graph) (vars ws : List (ArrayVec Edge)) (guard t : ℕ) → IsTest o g vars ws guard t → IsWanted o g vars ws guard 0
 guard_wanted o g vars ws guard t h = record { proper = h.wanted.proper; there = h.wanted.there; given = h.wanted.given; room = let r = h.wanted.room in omega arith }
@@ -33,7 +34,7 @@ pub term_edges : (n : List Node) (g : Graph) (vars vs : List (ArrayVec Edge)) (t
 term_edges n g vars vs t es w k e = ap length e ∙ w.widths.bits t k
 
 -- there is room for the edge
-pub room_left : (o m n : List Node) (g : Graph) (vars ws us vs : List (ArrayVec Edge)) (guard t : ℕ) → IsTest o g vars ws guard t → Translates o m g vars ws us 0 → Translates m n g vars us vs 0 → length n + (width_in g t + 8) ≤ 2147483648
+pub room_left : (o m n : List Node) (g : Graph) (vars ws us vs : List (ArrayVec Edge)) (guard t : ℕ) → IsTest o g vars ws guard t → Translates o m g vars ws us 0 → Translates m n g vars us vs 0 → length n + (width_in g t + 8) ≤ MOST_NODES
 room_left o m n g vars ws us vs guard t h x y =
     let r = h.wanted.room in
     let c = x.cost in

@@ -12,6 +12,7 @@ use Rattle.bitblast.specs.Wires.{AreWords, IsMade, edges_at}
 use Rattle.bitblast.specs.Making.{IsNext, IsWanted, MakesOne, Translates, gates_left}
 use Rattle.bitblast.proofs.Placing.{at_other, at_same, part_before, unmade, unmade_put}
 use Rattle.bitblast.proofs.Translating.{term_of, translates_none, translates_then}
+use Rattle.gate_net.specs.Net.{MOST_NODES}
 
 -- a term that isn't made, whose variables have edges
 pub record IsDue (g : Graph) (vars words : List (ArrayVec Edge)) (t : ℕ) : Type 0 where
@@ -107,7 +108,7 @@ waits_part o n g vars ws us t xs y z node h e c u =
     }
 
 -- a term whose parts are made can be made
-pub waits_next : (o n : List Node) (g : Graph) (vars ws us : List (ArrayVec Edge)) (t : ℕ) (xs : List TermId) (y : TermId) (node : TermNode) → Waits o n g vars ws us t (xs ++ y ∷ []) → length o + gates_left g g.terms ws ≤ 2147483648 → node_at g y.0 ≡ Some node
+pub waits_next : (o n : List Node) (g : Graph) (vars ws us : List (ArrayVec Edge)) (t : ℕ) (xs : List TermId) (y : TermId) (node : TermNode) → Waits o n g vars ws us t (xs ++ y ∷ []) → length o + gates_left g g.terms ws ≤ MOST_NODES → node_at g y.0 ≡ Some node
     → ((k : ℕ) → Contains (parts node) k → IsMade us k) → IsNext n g vars us y.0
 waits_next o n g vars ws us t xs y node h room e p =
     let top = due_top g vars us (length g.terms) xs y h.due in

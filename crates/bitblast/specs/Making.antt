@@ -5,7 +5,7 @@ use Rattle.arrayvec.specs.ArrayVec.{ArrayVec}
 use Rattle.gate_net.specs.declared.net.Edge.{Edge}
 use Rattle.gate_net.specs.declared.net.Node.{Node}
 use Rattle.gate_net.specs.Edge.{edge_value}
-use Rattle.gate_net.specs.Net.{IsValuation}
+use Rattle.gate_net.specs.Net.{IsValuation, MOST_NODES}
 use Rattle.bits_core.specs.Word.{at_zero}
 use Rattle.word_eqs.specs.declared.term.Term.{Term}
 use Rattle.word_eqs.specs.declared.term.TermNode.{TermNode}
@@ -36,7 +36,7 @@ pub record IsWanted (net : List Node) (g : Graph) (vars words : List (ArrayVec E
   pub proper : AreWords net g vars words
   pub there : t < length g.terms
   pub given : (x : ℕ) → Uses g t x → IsMade vars x
-  pub room : length net + gates_left g g.terms words + extra ≤ 2147483648
+  pub room : length net + gates_left g g.terms words + extra ≤ MOST_NODES
 
 -- a term that isn't made, but whose parts are
 pub record IsNext (net : List Node) (g : Graph) (vars words : List (ArrayVec Edge)) (t : ℕ) : Type 0 where

@@ -4,7 +4,7 @@ use Rattle.std.specs.List.{slice_index_or}
 use Rattle.arrayvec.specs.ArrayVec.{ArrayVec}
 use Rattle.gate_net.specs.declared.net.Edge.{Edge}
 use Rattle.gate_net.specs.declared.net.Node.{Node}
-use Rattle.gate_net.specs.Net.{IsValuation}
+use Rattle.gate_net.specs.Net.{IsValuation, MOST_NODES}
 use Rattle.word_eqs.specs.declared.term.TermNode.{TermNode}
 use Rattle.word_eqs.specs.declared.term.TermNode.TheVariants.{Var}
 use Rattle.word_eqs.specs.declared.term.VarId.{VarId}
@@ -40,7 +40,7 @@ pub record IsReady (net : List Node) (g : Graph) (vars terms : List (ArrayVec Ed
   pub fits : FitsNode g (length g.terms) node
   pub parts : (k : ℕ) → Contains (parts node) k → IsMade terms k
   pub given : (x : VarId) → node ≡ Var x → IsMade vars x.0
-  pub room : length net + node_gates g node ≤ 2147483648
+  pub room : length net + node_gates g node ≤ MOST_NODES
 
 -- each word that is made has the number that a valuation of variables and terms gives it
 pub record Fits (a : ℕ → Bool) (v : Valuation) (vars terms : List (ArrayVec Edge)) : Type 0 where

@@ -7,6 +7,7 @@ ghost use Rattle.bits_core.specs.declared.op.Op1.TheVariants.{Not};
 ghost use Rattle.gate_net.specs.Edge.{edge_value};
 ghost use Rattle.bitblast.specs.Circuit.{AreBelow, MakesEdge, MakesWord, number_of};
 ghost use Rattle.bitblast.specs.Bitwise.{bit_gates, bit_result, word_result};
+ghost use Rattle.gate_net.specs.Net.{MOST_NODES};
 
 use crate::gates::{both, choose, either, exclusive, opposite};
 use arrayvec::ArrayVec;
@@ -25,7 +26,7 @@ pub enum Bitwise {
 }
 
 fn gate(net: &mut Net, op: Bitwise, p: Edge, q: Edge) -> Result<Edge, AllocError>
-    requires room { length net.old + bit_gates op ≤ 2147483648 }
+    requires room { length net.old + bit_gates op ≤ MOST_NODES }
     requires left { p.node < length net.old }
     requires right { q.node < length net.old }
     ensures { IfOk result (MakesEdge net.old net.new (bit_gates op) (λ a. bit_result op (edge_value a p) (edge_value a q))) }
@@ -46,7 +47,7 @@ pub fn bit_by_bit(
 ) -> Result<Wire, AllocError>
     requires widths { length left.now ≡ length right.now }
     requires within { length left.now ≤ 128 }
-    requires room { length net.old + bit_gates op * length left.now ≤ 2147483648 }
+    requires room { length net.old + bit_gates op * length left.now ≤ MOST_NODES }
     requires left { AreBelow (length net.old) left.now }
     requires right { AreBelow (length net.old) right.now }
     ensures { IfOk result (λ made. MakesWord net.old net.new (bit_gates op * length left.now) (length left.now) (λ a. word_result op (number_of a left.now) (number_of a right.now)) made.items) }
@@ -62,7 +63,7 @@ pub fn bit_by_bit(
 /// A word where an edge is 1, and else 0: 1 gate a bit.
 pub fn masked(net: &mut Net, word: &[Edge], condition: Edge) -> Result<Wire, AllocError>
     requires within { length word.now ≤ 128 }
-    requires room { length net.old + length word.now ≤ 2147483648 }
+    requires room { length net.old + length word.now ≤ MOST_NODES }
     requires word { AreBelow (length net.old) word.now }
     requires condition { condition.node < length net.old }
     ensures { IfOk result (λ made. MakesWord net.old net.new (length word.now) (length word.now) (λ a. bit (edge_value a condition) * number_of a word.now) made.items) }
@@ -84,7 +85,7 @@ pub fn choose_word(
 ) -> Result<Wire, AllocError>
     requires widths { length left.now ≡ length right.now }
     requires within { length left.now ≤ 128 }
-    requires room { length net.old + 3 * length left.now ≤ 2147483648 }
+    requires room { length net.old + 3 * length left.now ≤ MOST_NODES }
     requires condition { condition.node < length net.old }
     requires left { AreBelow (length net.old) left.now }
     requires right { AreBelow (length net.old) right.now }

@@ -2,7 +2,7 @@
 
 ghost use Rattle.std.specs.Prelude.{◌≡◌, ◌+◌, ◌<◌, ◌≤◌, ◌^◌, ◌∷◌, [], ℕ, Bool, ◌||◌, ◌&&◌, false, true, length, replicate, slice_get, IfOk, OnOk, ◌++◌, Some};
 ghost use Rattle.gate_net.specs.Edge.{edge_value};
-ghost use Rattle.gate_net.specs.Net.{IsValuation};
+ghost use Rattle.gate_net.specs.Net.{IsValuation, MOST_NODES};
 ghost use Rattle.gate_net.specs.declared.net.Node.TheVariants.{Input};
 ghost use Rattle.word_eqs.specs.Gates.{gate_count};
 ghost use Rattle.word_eqs.specs.Graph.{IsGraph, width_of_var};
@@ -58,7 +58,7 @@ fn no_wires(alloc: Global, count: u32) -> Result<WireList, AllocError>
 /// A word of new inputs.
 fn new_inputs(net: &mut Net, width: u8) -> Result<Wire, AllocError>
     requires within { width ≤ 128 }
-    requires room { length net.old + width ≤ 2147483648 }
+    requires room { length net.old + width ≤ MOST_NODES }
     ensures net { OnOk result (net.new ≡ net.old ++ replicate width Input) }
     ensures word { IfOk result (λ word. word.items ≡ inputs_from (length net.old) (replicate width Input)) }
 {
@@ -78,7 +78,7 @@ fn broken(
     fails: Edge,
     breaks: bool,
 ) -> Result<Edge, AllocError>
-    requires room { length net.old + 2 ≤ 2147483648 }
+    requires room { length net.old + 2 ≤ MOST_NODES }
     requires root { root.node < length net.old }
     requires live { live.node < length net.old }
     requires fails { fails.node < length net.old }
@@ -127,7 +127,7 @@ impl Maker {
     fn leave_free(&mut self, width: u8, x: VarId) -> Result<(), AllocError>
         requires within { width ≤ 128 }
         requires there { x.0 < length self.old.wires }
-        requires room { length self.old.net + width ≤ 2147483648 }
+        requires room { length self.old.net + width ≤ MOST_NODES }
         ensures { OnOk result (Frees self.old self.new x.0 width) }
     {
         let word = new_inputs(&mut self.net, width)?;
@@ -184,7 +184,7 @@ impl Maker {
     ) -> Result<(), AllocError>
         requires within { k < length list.now }
         requires ordered { IsOrdered terms.now list.now }
-        requires room { 1 + gate_count terms.now list.now ≤ 2147483648 }
+        requires room { 1 + gate_count terms.now list.now ≤ MOST_NODES }
         requires at { IsAt terms.now list.now k self.old }
         ensures { OnOk result (IsAt terms.now list.now (k + 1) self.new) }
     {
@@ -203,7 +203,7 @@ impl Maker {
 /// A term is translated once, when a guard, a set variable, an assumption or a property first wants it.
 pub fn blast(alloc: Global, terms: &Terms, list: &GuardedList) -> Result<Blasted, AllocError>
     requires ordered { IsOrdered terms.now list.now }
-    requires room { 1 + gate_count terms.now list.now ≤ 2147483648 }
+    requires room { 1 + gate_count terms.now list.now ≤ MOST_NODES }
     ensures { IfOk result (λ b. StandsFor terms.now list.now b.net b.root b.wires) }
 {
     let mut maker = Maker::new(alloc, terms, list)?;

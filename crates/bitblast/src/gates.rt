@@ -3,6 +3,7 @@
 ghost use Rattle.std.specs.Prelude.{◌≡◌, ◌+◌, ◌<◌, ◌≤◌, ◌&&◌, ◌||◌, not, if◌then◌else◌, ℕ, Bool, length, IfOk};
 ghost use Rattle.gate_net.specs.Edge.{edge_value};
 ghost use Rattle.bitblast.specs.Circuit.{MakesEdge, AddsBits, differ};
+ghost use Rattle.gate_net.specs.Net.{MOST_NODES};
 
 use gate_net::{Edge, Net};
 use std::alloc::AllocError;
@@ -17,7 +18,7 @@ pub fn opposite(e: Edge) -> Edge
 
 /// Both of two edges.
 pub fn both(net: &mut Net, p: Edge, q: Edge) -> Result<Edge, AllocError>
-    requires room { length net.old < 2147483648 }
+    requires room { length net.old < MOST_NODES }
     requires left { p.node < length net.old }
     requires right { q.node < length net.old }
     ensures { IfOk result (MakesEdge net.old net.new 1 (λ a. edge_value a p && edge_value a q)) }
@@ -28,7 +29,7 @@ pub fn both(net: &mut Net, p: Edge, q: Edge) -> Result<Edge, AllocError>
 
 /// At least one of two edges.
 pub fn either(net: &mut Net, p: Edge, q: Edge) -> Result<Edge, AllocError>
-    requires room { length net.old < 2147483648 }
+    requires room { length net.old < MOST_NODES }
     requires left { p.node < length net.old }
     requires right { q.node < length net.old }
     ensures { IfOk result (MakesEdge net.old net.new 1 (λ a. edge_value a p || edge_value a q)) }
@@ -39,7 +40,7 @@ pub fn either(net: &mut Net, p: Edge, q: Edge) -> Result<Edge, AllocError>
 
 /// Exactly one of two edges. Its first gate is that of both, which a sum shares with its carry.
 pub fn exclusive(net: &mut Net, p: Edge, q: Edge) -> Result<Edge, AllocError>
-    requires room { length net.old + 3 ≤ 2147483648 }
+    requires room { length net.old + 3 ≤ MOST_NODES }
     requires left { p.node < length net.old }
     requires right { q.node < length net.old }
     ensures { IfOk result (MakesEdge net.old net.new 3 (λ a. differ (edge_value a p) (edge_value a q))) }
@@ -52,7 +53,7 @@ pub fn exclusive(net: &mut Net, p: Edge, q: Edge) -> Result<Edge, AllocError>
 
 /// The second edge where the first is 1, and else the third.
 pub fn choose(net: &mut Net, condition: Edge, p: Edge, q: Edge) -> Result<Edge, AllocError>
-    requires room { length net.old + 3 ≤ 2147483648 }
+    requires room { length net.old + 3 ≤ MOST_NODES }
     requires condition { condition.node < length net.old }
     requires left { p.node < length net.old }
     requires right { q.node < length net.old }
@@ -73,7 +74,7 @@ pub struct SumBits {
 
 /// A full adder: the sum of three bits.
 pub fn full_adder(net: &mut Net, p: Edge, q: Edge, r: Edge) -> Result<SumBits, AllocError>
-    requires room { length net.old + 9 ≤ 2147483648 }
+    requires room { length net.old + 9 ≤ MOST_NODES }
     requires left { p.node < length net.old }
     requires right { q.node < length net.old }
     requires carry { r.node < length net.old }

@@ -4,6 +4,7 @@ ghost use Rattle.std.specs.Prelude.{◌≡◌, ◌+◌, ◌<◌, ◌≤◌, leng
 ghost use Rattle.bits_core.specs.Ops.{value1, value2, width1, width2};
 ghost use Rattle.word_eqs.specs.Gates.{gates1, gates2};
 ghost use Rattle.bitblast.specs.Circuit.{AreBelow, MakesWord, number_of};
+ghost use Rattle.gate_net.specs.Net.{MOST_NODES};
 
 use crate::bitwise::{Bitwise, Wire, bit_by_bit, inverted};
 use crate::products::multiply;
@@ -19,7 +20,7 @@ use std::alloc::AllocError;
 /// An operation on one word.
 pub fn operate1(net: &mut Net, op: Op1, word: &[Edge]) -> Result<Wire, AllocError>
     requires within { length word.now ≤ 128 }
-    requires room { length net.old + gates1 op (length word.now) ≤ 2147483648 }
+    requires room { length net.old + gates1 op (length word.now) ≤ MOST_NODES }
     requires word { AreBelow (length net.old) word.now }
     ensures { IfOk result (λ made. MakesWord net.old net.new (gates1 op (length word.now)) (width1 op (length word.now)) (λ a. value1 op (length word.now) (number_of a word.now)) made.items) }
 {
@@ -49,7 +50,7 @@ pub fn operate2(net: &mut Net, op: Op2, left: &[Edge], right: &[Edge]) -> Result
     requires some { 0 < length left.now }
     requires widths { length left.now ≡ length right.now }
     requires within { length left.now ≤ 128 }
-    requires room { length net.old + gates2 op (length left.now) ≤ 2147483648 }
+    requires room { length net.old + gates2 op (length left.now) ≤ MOST_NODES }
     requires left { AreBelow (length net.old) left.now }
     requires right { AreBelow (length net.old) right.now }
     ensures { IfOk result (λ made. MakesWord net.old net.new (gates2 op (length left.now)) (width2 op (length left.now)) (λ a. value2 op (length left.now) (number_of a left.now) (number_of a right.now)) made.items) }

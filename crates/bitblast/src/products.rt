@@ -6,6 +6,7 @@ ghost use Rattle.bits_core.specs.Word.{bit};
 ghost use Rattle.bits_core.specs.Ops.{value2};
 ghost use Rattle.bits_core.specs.declared.op.Op2.TheVariants.{Mul};
 ghost use Rattle.bitblast.specs.Circuit.{AreBelow, MakesWord, number_of};
+ghost use Rattle.gate_net.specs.Net.{MOST_NODES};
 
 use crate::bitwise::{Wire, masked};
 use crate::shapes::{falsity, with_low};
@@ -22,7 +23,7 @@ fn doubled_and_added(
 ) -> Result<Wire, AllocError>
     requires widths { length more.now ≡ length word.now + 1 }
     requires within { length more.now ≤ 128 }
-    requires room { length net.old + 10 * length more.now ≤ 2147483648 }
+    requires room { length net.old + 10 * length more.now ≤ MOST_NODES }
     requires word { AreBelow (length net.old) word.now }
     requires more { AreBelow (length net.old) more.now }
     requires condition { condition.node < length net.old }
@@ -40,7 +41,7 @@ fn doubled_and_added(
 pub fn multiply(net: &mut Net, left: &[Edge], right: &[Edge]) -> Result<Wire, AllocError>
     requires widths { length left.now ≡ length right.now }
     requires within { length left.now ≤ 128 }
-    requires room { length net.old + 10 * (length left.now * length left.now) ≤ 2147483648 }
+    requires room { length net.old + 10 * (length left.now * length left.now) ≤ MOST_NODES }
     requires left { AreBelow (length net.old) left.now }
     requires right { AreBelow (length net.old) right.now }
     ensures { IfOk result (λ made. MakesWord net.old net.new (10 * (length left.now * length left.now)) (length left.now) (λ a. value2 Mul (length left.now) (number_of a left.now) (number_of a right.now)) made.items) }

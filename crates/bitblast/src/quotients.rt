@@ -7,6 +7,7 @@ ghost use Rattle.bits_core.specs.Ops.{quotient, remainder, value1};
 ghost use Rattle.bits_core.specs.declared.op.Op1.TheVariants.{Neg};
 ghost use Rattle.bitblast.specs.Circuit.{AreBelow, MakesWord, number_of};
 ghost use Rattle.bitblast.specs.Quotients.{MakesStep, MakesDivision};
+ghost use Rattle.gate_net.specs.Net.{MOST_NODES};
 
 use crate::bitwise::{Wire, choose_word, masked};
 use crate::gates::{either, exclusive};
@@ -34,7 +35,7 @@ fn take_divisor(
     requires some { 0 < length rest.now }
     requires widths { length rest.now ≡ length divisor.now }
     requires within { length rest.now ≤ 128 }
-    requires room { length net.old + 13 * length rest.now ≤ 2147483648 }
+    requires room { length net.old + 13 * length rest.now ≤ MOST_NODES }
     requires rest { AreBelow (length net.old) rest.now }
     requires next { next.node < length net.old }
     requires divisor { AreBelow (length net.old) divisor.now }
@@ -60,7 +61,7 @@ fn divide(net: &mut Net, dividend: &[Edge], divisor: &[Edge]) -> Result<Division
     requires some { 0 < length dividend.now }
     requires widths { length dividend.now ≡ length divisor.now }
     requires within { length dividend.now ≤ 128 }
-    requires room { length net.old + 13 * (length dividend.now * length dividend.now) ≤ 2147483648 }
+    requires room { length net.old + 13 * (length dividend.now * length dividend.now) ≤ MOST_NODES }
     requires dividend { AreBelow (length net.old) dividend.now }
     requires divisor { AreBelow (length net.old) divisor.now }
     ensures { IfOk result (λ made. MakesDivision net.old net.new (13 * (length dividend.now * length dividend.now)) (length dividend.now) (λ a. number_of a dividend.now) divisor.now made.quotient.items made.rest.items) }
@@ -80,7 +81,7 @@ pub fn divide_unsigned(net: &mut Net, left: &[Edge], right: &[Edge]) -> Result<W
     requires some { 0 < length left.now }
     requires widths { length left.now ≡ length right.now }
     requires within { length left.now ≤ 128 }
-    requires room { length net.old + (13 * (length left.now * length left.now) + 2 * length left.now) ≤ 2147483648 }
+    requires room { length net.old + (13 * (length left.now * length left.now) + 2 * length left.now) ≤ MOST_NODES }
     requires left { AreBelow (length net.old) left.now }
     requires right { AreBelow (length net.old) right.now }
     ensures { IfOk result (λ made. MakesWord net.old net.new (13 * (length left.now * length left.now) + 2 * length left.now) (length left.now) (λ a. quotient false (length left.now) (number_of a left.now) (number_of a right.now)) made.items) }
@@ -96,7 +97,7 @@ pub fn remainder_unsigned(net: &mut Net, left: &[Edge], right: &[Edge]) -> Resul
     requires some { 0 < length left.now }
     requires widths { length left.now ≡ length right.now }
     requires within { length left.now ≤ 128 }
-    requires room { length net.old + (13 * (length left.now * length left.now) + 2 * length left.now) ≤ 2147483648 }
+    requires room { length net.old + (13 * (length left.now * length left.now) + 2 * length left.now) ≤ MOST_NODES }
     requires left { AreBelow (length net.old) left.now }
     requires right { AreBelow (length net.old) right.now }
     ensures { IfOk result (λ made. MakesWord net.old net.new (13 * (length left.now * length left.now) + 2 * length left.now) (length left.now) (λ a. remainder false (length left.now) (number_of a left.now) (number_of a right.now)) made.items) }
@@ -111,7 +112,7 @@ pub fn remainder_unsigned(net: &mut Net, left: &[Edge], right: &[Edge]) -> Resul
 fn size_of_signed(net: &mut Net, word: &[Edge]) -> Result<Wire, AllocError>
     requires some { 0 < length word.now }
     requires within { length word.now ≤ 128 }
-    requires room { length net.old + 12 * length word.now ≤ 2147483648 }
+    requires room { length net.old + 12 * length word.now ≤ MOST_NODES }
     requires word { AreBelow (length net.old) word.now }
     ensures { IfOk result (λ made. MakesWord net.old net.new (12 * length word.now) (length word.now) (λ a. unsigned_abs (read_signed (2 ^ length word.now) (number_of a word.now))) made.items) }
 {
@@ -123,7 +124,7 @@ fn size_of_signed(net: &mut Net, word: &[Edge]) -> Result<Wire, AllocError>
 /// A word, or its negative where an edge is 1: 12 gates a bit.
 fn negate_where(net: &mut Net, condition: Edge, word: &[Edge]) -> Result<Wire, AllocError>
     requires within { length word.now ≤ 128 }
-    requires room { length net.old + 12 * length word.now ≤ 2147483648 }
+    requires room { length net.old + 12 * length word.now ≤ MOST_NODES }
     requires condition { condition.node < length net.old }
     requires word { AreBelow (length net.old) word.now }
     ensures { IfOk result (λ made. MakesWord net.old net.new (12 * length word.now) (length word.now) (λ a. if edge_value a condition then value1 Neg (length word.now) (number_of a word.now) else number_of a word.now) made.items) }
@@ -139,7 +140,7 @@ pub fn divide_signed(net: &mut Net, left: &[Edge], right: &[Edge]) -> Result<Wir
     requires some { 0 < length left.now }
     requires widths { length left.now ≡ length right.now }
     requires within { length left.now ≤ 128 }
-    requires room { length net.old + (13 * (length left.now * length left.now) + 41 * length left.now) ≤ 2147483648 }
+    requires room { length net.old + (13 * (length left.now * length left.now) + 41 * length left.now) ≤ MOST_NODES }
     requires left { AreBelow (length net.old) left.now }
     requires right { AreBelow (length net.old) right.now }
     ensures { IfOk result (λ made. MakesWord net.old net.new (13 * (length left.now * length left.now) + 41 * length left.now) (length left.now) (λ a. quotient true (length left.now) (number_of a left.now) (number_of a right.now)) made.items) }
@@ -158,7 +159,7 @@ pub fn remainder_signed(net: &mut Net, left: &[Edge], right: &[Edge]) -> Result<
     requires some { 0 < length left.now }
     requires widths { length left.now ≡ length right.now }
     requires within { length left.now ≤ 128 }
-    requires room { length net.old + (13 * (length left.now * length left.now) + 38 * length left.now) ≤ 2147483648 }
+    requires room { length net.old + (13 * (length left.now * length left.now) + 38 * length left.now) ≤ MOST_NODES }
     requires left { AreBelow (length net.old) left.now }
     requires right { AreBelow (length net.old) right.now }
     ensures { IfOk result (λ made. MakesWord net.old net.new (13 * (length left.now * length left.now) + 38 * length left.now) (length left.now) (λ a. remainder true (length left.now) (number_of a left.now) (number_of a right.now)) made.items) }

@@ -6,6 +6,7 @@ ghost use Rattle.bits_core.specs.Ops.{value2};
 ghost use Rattle.bits_core.specs.declared.op.Op2.TheVariants.{ShrS};
 ghost use Rattle.bitblast.specs.Circuit.{AreBelow, MakesWord, number_of};
 ghost use Rattle.bitblast.specs.Shifts.{shifted};
+ghost use Rattle.gate_net.specs.Net.{MOST_NODES};
 
 use crate::bitwise::{Wire, choose_word, inverted, masked};
 use crate::gates::opposite;
@@ -85,7 +86,7 @@ fn shift_in_stages(
 ) -> Result<Wire, AllocError>
     requires few { length amount.now ≤ 7 }
     requires within { length word.now ≤ 128 }
-    requires room { length net.old + 3 * (length word.now * length amount.now) ≤ 2147483648 }
+    requires room { length net.old + 3 * (length word.now * length amount.now) ≤ MOST_NODES }
     requires word { AreBelow (length net.old) word.now }
     requires amount { AreBelow (length net.old) amount.now }
     ensures { IfOk result (λ made. MakesWord net.old net.new (3 * (length word.now * length amount.now)) (length word.now) (λ a. shifted direction (length word.now) (number_of a word.now) (number_of a amount.now)) made.items) }
@@ -109,7 +110,7 @@ pub fn shift(
 ) -> Result<Wire, AllocError>
     requires widths { length word.now ≡ length amount.now }
     requires within { length word.now ≤ 128 }
-    requires room { length net.old + 23 * length word.now ≤ 2147483648 }
+    requires room { length net.old + 23 * length word.now ≤ MOST_NODES }
     requires word { AreBelow (length net.old) word.now }
     requires amount { AreBelow (length net.old) amount.now }
     ensures { IfOk result (λ made. MakesWord net.old net.new (23 * length word.now) (length word.now) (λ a. shifted direction (length word.now) (number_of a word.now) (number_of a amount.now)) made.items) }
@@ -127,7 +128,7 @@ pub fn shift_right_signed(net: &mut Net, word: &[Edge], amount: &[Edge]) -> Resu
     requires some { 0 < length word.now }
     requires widths { length word.now ≡ length amount.now }
     requires within { length word.now ≤ 128 }
-    requires room { length net.old + 29 * length word.now ≤ 2147483648 }
+    requires room { length net.old + 29 * length word.now ≤ MOST_NODES }
     requires word { AreBelow (length net.old) word.now }
     requires amount { AreBelow (length net.old) amount.now }
     ensures { IfOk result (λ made. MakesWord net.old net.new (29 * length word.now) (length word.now) (λ a. value2 ShrS (length word.now) (number_of a word.now) (number_of a amount.now)) made.items) }

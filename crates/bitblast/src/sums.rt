@@ -7,6 +7,7 @@ ghost use Rattle.bits_core.specs.Ops.{less, value1, value2};
 ghost use Rattle.bits_core.specs.declared.op.Op1.TheVariants.{Neg};
 ghost use Rattle.bits_core.specs.declared.op.Op2.TheVariants.{Add, Sub};
 ghost use Rattle.bitblast.specs.Circuit.{AreBelow, MakesEdge, MakesSum, MakesWord, number_of};
+ghost use Rattle.gate_net.specs.Net.{MOST_NODES};
 
 use crate::bitwise::{Wire, inverted};
 use crate::gates::{full_adder, opposite};
@@ -30,7 +31,7 @@ pub fn add_with_carry(
 ) -> Result<Sum, AllocError>
     requires widths { length left.now ≡ length right.now }
     requires within { length left.now ≤ 128 }
-    requires room { length net.old + 9 * length left.now ≤ 2147483648 }
+    requires room { length net.old + 9 * length left.now ≤ MOST_NODES }
     requires left { AreBelow (length net.old) left.now }
     requires right { AreBelow (length net.old) right.now }
     requires carry { carry_in.node < length net.old }
@@ -50,7 +51,7 @@ pub fn add_with_carry(
 pub fn add(net: &mut Net, left: &[Edge], right: &[Edge]) -> Result<Wire, AllocError>
     requires widths { length left.now ≡ length right.now }
     requires within { length left.now ≤ 128 }
-    requires room { length net.old + 9 * length left.now ≤ 2147483648 }
+    requires room { length net.old + 9 * length left.now ≤ MOST_NODES }
     requires left { AreBelow (length net.old) left.now }
     requires right { AreBelow (length net.old) right.now }
     ensures { IfOk result (λ made. MakesWord net.old net.new (9 * length left.now) (length left.now) (λ a. value2 Add (length left.now) (number_of a left.now) (number_of a right.now)) made.items) }
@@ -64,7 +65,7 @@ pub fn add(net: &mut Net, left: &[Edge], right: &[Edge]) -> Result<Wire, AllocEr
 pub fn difference(net: &mut Net, left: &[Edge], right: &[Edge]) -> Result<Sum, AllocError>
     requires widths { length left.now ≡ length right.now }
     requires within { length left.now ≤ 128 }
-    requires room { length net.old + 9 * length left.now ≤ 2147483648 }
+    requires room { length net.old + 9 * length left.now ≤ MOST_NODES }
     requires left { AreBelow (length net.old) left.now }
     requires right { AreBelow (length net.old) right.now }
     ensures { IfOk result (λ made. MakesSum net.old net.new (9 * length left.now) (length left.now) (λ a. number_of a left.now + (2 ^ length left.now - number_of a right.now)) made.word.items made.carry) }
@@ -79,7 +80,7 @@ pub fn difference(net: &mut Net, left: &[Edge], right: &[Edge]) -> Result<Sum, A
 pub fn subtract(net: &mut Net, left: &[Edge], right: &[Edge]) -> Result<Wire, AllocError>
     requires widths { length left.now ≡ length right.now }
     requires within { length left.now ≤ 128 }
-    requires room { length net.old + 9 * length left.now ≤ 2147483648 }
+    requires room { length net.old + 9 * length left.now ≤ MOST_NODES }
     requires left { AreBelow (length net.old) left.now }
     requires right { AreBelow (length net.old) right.now }
     ensures { IfOk result (λ made. MakesWord net.old net.new (9 * length left.now) (length left.now) (λ a. value2 Sub (length left.now) (number_of a left.now) (number_of a right.now)) made.items) }
@@ -91,7 +92,7 @@ pub fn subtract(net: &mut Net, left: &[Edge], right: &[Edge]) -> Result<Wire, Al
 /// The negative of a word, modulo 2^width: 9 gates a bit.
 pub fn negate(net: &mut Net, word: &[Edge]) -> Result<Wire, AllocError>
     requires within { length word.now ≤ 128 }
-    requires room { length net.old + 9 * length word.now ≤ 2147483648 }
+    requires room { length net.old + 9 * length word.now ≤ MOST_NODES }
     requires word { AreBelow (length net.old) word.now }
     ensures { IfOk result (λ made. MakesWord net.old net.new (9 * length word.now) (length word.now) (λ a. value1 Neg (length word.now) (number_of a word.now)) made.items) }
 {
@@ -104,7 +105,7 @@ pub fn negate(net: &mut Net, word: &[Edge]) -> Result<Wire, AllocError>
 pub fn is_less_unsigned(net: &mut Net, left: &[Edge], right: &[Edge]) -> Result<Edge, AllocError>
     requires widths { length left.now ≡ length right.now }
     requires within { length left.now ≤ 128 }
-    requires room { length net.old + 9 * length left.now ≤ 2147483648 }
+    requires room { length net.old + 9 * length left.now ≤ MOST_NODES }
     requires left { AreBelow (length net.old) left.now }
     requires right { AreBelow (length net.old) right.now }
     ensures { IfOk result (MakesEdge net.old net.new (9 * length left.now) (λ a. less false (length left.now) (number_of a left.now) (number_of a right.now))) }
@@ -119,7 +120,7 @@ pub fn is_less_signed(net: &mut Net, left: &[Edge], right: &[Edge]) -> Result<Ed
     requires some { 0 < length left.now }
     requires widths { length left.now ≡ length right.now }
     requires within { length left.now ≤ 128 }
-    requires room { length net.old + 9 * length left.now ≤ 2147483648 }
+    requires room { length net.old + 9 * length left.now ≤ MOST_NODES }
     requires left { AreBelow (length net.old) left.now }
     requires right { AreBelow (length net.old) right.now }
     ensures { IfOk result (MakesEdge net.old net.new (9 * length left.now) (λ a. less true (length left.now) (number_of a left.now) (number_of a right.now))) }

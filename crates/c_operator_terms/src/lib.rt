@@ -7,6 +7,7 @@ ghost use Rattle.joint_ir.specs.Weights.{unary_weight, binary_weight};
 ghost use Rattle.sized_terms.specs.Sized.{Has};
 ghost use Rattle.checked_terms.specs.Checked.{stands, IsChecked, plain as plain_of};
 ghost use Rattle.c_operator_terms.specs.Operators.{IsUnary, IsBinary, less_op_of};
+ghost use Rattle.word_eqs.specs.Graph.{MOST_TERMS};
 
 use bits_core::Op2;
 use checked_terms::Checked;
@@ -39,7 +40,7 @@ pub fn unary(
     requires has { Has terms.old a }
     requires width { a.width ≡ from.bits }
     requires fits { IsUnary op ty from other }
-    requires room { length terms.old.terms + 5 ≤ 2147483648 }
+    requires room { length terms.old.terms + 5 ≤ MOST_TERMS }
     ensures { IfOk result (λ r. IsChecked terms.old terms.new ty (8 * unary_weight op ty from.bits) 5 r (λ v. unary_value op ty other (stands from v a))) }
 {
     // The terms are a graph.
@@ -85,7 +86,7 @@ pub fn binary(
     requires width_a { a.width ≡ left.bits }
     requires width_b { b.width ≡ right.bits }
     requires fits { IsBinary op ty left right division other }
-    requires room { length terms.old.terms + 11 ≤ 2147483648 }
+    requires room { length terms.old.terms + 11 ≤ MOST_TERMS }
     ensures { IfOk result (λ r. IsChecked terms.old terms.new ty (8 * binary_weight op ty left.bits right.bits) 11 r (λ v. binary_value op ty division other (stands left v a) (stands right v b))) }
 {
     match op {

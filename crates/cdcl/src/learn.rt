@@ -11,6 +11,7 @@ ghost use Rattle.cdcl.specs.Work.{IsConflict};
 ghost use Rattle.cdcl.specs.Grown.{IsLearned, IsRefuted};
 ghost use Rattle.cdcl.specs.Answer.{Keeps};
 ghost use Rattle.cdcl.specs.Watching.{IsWatching, HasNewest, IsBefore};
+ghost use Rattle.clause_arena.specs.Arena.{MOST_CLAUSES};
 
 use crate::analyze::{resolve_back, resolve_to_empty};
 use crate::shorten::shorten;
@@ -113,7 +114,7 @@ pub fn learn_reserved(
     conflict: ClauseId,
     start: usize,
 ) -> Result<ClauseId, AllocError>
-    requires room { length arena.old.clauses < 4294967295 }
+    requires room { length arena.old.clauses < MOST_CLAUSES }
     requires spare_clause { 0 < arena.old.spare_clauses }
     requires spare_lits { vars_of trail.old ≤ arena.old.spare_lits }
     requires below { AllClauses (is_below (vars_of trail.old)) arena.old.clauses }
@@ -154,7 +155,7 @@ pub fn learn(
     conflict: ClauseId,
     start: usize,
 ) -> Result<ClauseId, AllocError>
-    requires room { length arena.old.clauses < 4294967295 }
+    requires room { length arena.old.clauses < MOST_CLAUSES }
     requires vars { vars_of trail.old < 4294967296 }
     requires below { AllClauses (is_below (vars_of trail.old)) arena.old.clauses }
     requires kept { IsKept arena.old.clauses trail.old }
@@ -181,7 +182,7 @@ pub fn refute(
     trail: &Trail,
     conflict: ClauseId,
 ) -> Result<(), AllocError>
-    requires room { length arena.old.clauses < 4294967295 }
+    requires room { length arena.old.clauses < MOST_CLAUSES }
     requires below { AllClauses (is_below (vars_of trail.now)) arena.old.clauses }
     requires open { AllClauses is_open arena.old.clauses }
     requires kept { IsKept arena.old.clauses trail.now }

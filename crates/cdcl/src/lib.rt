@@ -6,6 +6,7 @@ ghost use Rattle.std.specs.Prelude.{◌<◌, ◌≤◌, ◌+◌, ◌^◌, length
 ghost use Rattle.clause_arena.specs.Clause.{is_below};
 ghost use Rattle.cdcl.specs.Trail.{AllClauses};
 ghost use Rattle.cdcl.specs.Answer.{IsAnswer, IsDecided, Keeps};
+ghost use Rattle.clause_arena.specs.Arena.{MOST_CLAUSES};
 
 mod activity;
 mod chooser;
@@ -83,7 +84,7 @@ pub fn solve(
 ) -> Result<Solved, AllocError>
     requires below { AllClauses (is_below vars) arena.old.clauses }
     requires some { 0 < budget }
-    requires room { length arena.old.clauses + budget ≤ 4294967295 }
+    requires room { length arena.old.clauses + budget ≤ MOST_CLAUSES }
     ensures answer { IfOk result (IsAnswer arena.old.clauses arena.new.clauses vars budget) }
     // A budget that holds all clauses over the variables is never spent.
     ensures earned { 3 ^ vars ≤ budget → IfOk result IsDecided }
@@ -105,7 +106,7 @@ pub fn solve_counted(
 ) -> Result<Solved, AllocError>
     requires below { AllClauses (is_below vars) arena.old.clauses }
     requires some { 0 < budget }
-    requires room { length arena.old.clauses + budget ≤ 4294967295 }
+    requires room { length arena.old.clauses + budget ≤ MOST_CLAUSES }
     ensures answer { IfOk result (IsAnswer arena.old.clauses arena.new.clauses vars budget) }
     // A budget that holds all clauses over the variables is never spent.
     ensures earned { 3 ^ vars ≤ budget → IfOk result IsDecided }

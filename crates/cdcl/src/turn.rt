@@ -9,6 +9,7 @@ ghost use Rattle.cdcl.specs.Work.{IsConflict};
 ghost use Rattle.cdcl.specs.Answer.{Keeps, assignment};
 ghost use Rattle.cdcl.specs.Turn.{IsTurn, IsOutcome, OnAgain};
 ghost use Rattle.cdcl.specs.Watching.{IsWatching};
+ghost use Rattle.clause_arena.specs.Arena.{MOST_CLAUSES};
 
 use crate::chooser::Chooser;
 use crate::counts::{Counts, propagate_counted};
@@ -96,7 +97,7 @@ pub fn end_conflict(
     pace: &mut Pace,
     conflict: ClauseId,
 ) -> Result<Outcome, AllocError>
-    requires room { length arena.old.clauses < 4294967295 }
+    requires room { length arena.old.clauses < MOST_CLAUSES }
     requires vars { vars_of trail.old < 4294967296 }
     requires below { AllClauses (is_below (vars_of trail.old)) arena.old.clauses }
     requires open { AllClauses is_open arena.old.clauses }
@@ -140,7 +141,7 @@ pub fn turn(
     pace: &mut Pace,
     counts: &mut Counts,
 ) -> Result<Outcome, AllocError>
-    requires room { length arena.old.clauses < 4294967295 }
+    requires room { length arena.old.clauses < MOST_CLAUSES }
     requires vars { vars_of trail.old < 4294967296 }
     requires below { AllClauses (is_below (vars_of trail.old)) arena.old.clauses }
     requires open { AllClauses is_open arena.old.clauses }

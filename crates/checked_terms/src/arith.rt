@@ -9,6 +9,7 @@ ghost use Rattle.joint_ir.specs.Values.{result_in, Value};
 ghost use Rattle.joint_ir.specs.Weights.{unary_weight, product_weight};
 ghost use Rattle.sized_terms.specs.Sized.{Has, IsMade, bits};
 ghost use Rattle.checked_terms.specs.Checked.{check_of, stands, IsChecked, IsCut, IsPlain, plain};
+ghost use Rattle.word_eqs.specs.Graph.{MOST_TERMS};
 
 use crate::{Check, Checked, Cut};
 use bits_core::{Op1, Op2};
@@ -35,7 +36,7 @@ fn cut(terms: &mut Terms, wide: SizedTerm, ty: IntType) -> Result<Cut, AllocErro
     requires signed { ty.signed ≡ true }
     requires wider { ty.bits ≤ wide.width }
     requires within { wide.width ≤ 128 }
-    requires room { length terms.old.terms + 3 ≤ 2147483648 }
+    requires room { length terms.old.terms + 3 ≤ MOST_TERMS }
     ensures { IfOk result (λ r. IsCut terms.old terms.new ty wide r) }
 {
     let value = sized_terms::resize(terms, wide, ty.bits, true)?;
@@ -57,7 +58,7 @@ fn wide(
     requires same { b.width ≡ a.width }
     requires some { 0 < to }
     requires within { to ≤ 128 }
-    requires room { length terms.old.terms + 3 ≤ 2147483648 }
+    requires room { length terms.old.terms + 3 ≤ MOST_TERMS }
     ensures { IfOk result (λ t. IsMade terms.old terms.new (width2 op to) (gates2 op to) 3 t (λ v. value2 op to (resized to true a.width (bits v a)) (resized to true a.width (bits v b)))) }
 {
     let x = sized_terms::resize(terms, a, to, true)?;
@@ -85,7 +86,7 @@ fn signed(
     requires wider { ty.bits ≤ to }
     requires within { to ≤ 128 }
     requires op { width2 op to ≡ to }
-    requires room { length terms.old.terms + 6 ≤ 2147483648 }
+    requires room { length terms.old.terms + 6 ≤ MOST_TERMS }
     ensures { IfOk result (λ r. IsChecked terms.old terms.new ty (gates2 op to + 4 * to + 9) 6 r (λ v. result_in ty other (number true to (value2 op to (resized to true ty.bits (bits v a)) (resized to true ty.bits (bits v b)))))) }
 {
     let t = wide(terms, op, to, a, b)?;
@@ -102,7 +103,7 @@ fn unsigned(terms: &mut Terms, op: Op2, a: SizedTerm, b: SizedTerm) -> Result<Ch
     requires first { Has terms.old a }
     requires second { Has terms.old b }
     requires same { b.width ≡ a.width }
-    requires room { length terms.old.terms + 1 ≤ 2147483648 }
+    requires room { length terms.old.terms + 1 ≤ MOST_TERMS }
     ensures plain { IfOk result (λ r. r ≡ plain r.value) }
     ensures made { IfOk result (λ r. IsMade terms.old terms.new (width2 op a.width) (gates2 op a.width) 1 r.value (λ v. value2 op a.width (bits v a) (bits v b))) }
 {
@@ -128,7 +129,7 @@ pub fn sum(
     requires width_b { b.width ≡ ty.bits }
     requires ty { IsPlain ty }
     requires wraps { ty.signed ≡ false → other ≡ None }
-    requires room { length terms.old.terms + 6 ≤ 2147483648 }
+    requires room { length terms.old.terms + 6 ≤ MOST_TERMS }
     ensures { IfOk result (λ r. IsChecked terms.old terms.new ty (8 * (10 * ty.bits + 32)) 6 r (λ v. result_in ty other (stands ty v a +ℤ stands ty v b))) }
 {
     if ty.signed {
@@ -154,7 +155,7 @@ pub fn difference(
     requires width_b { b.width ≡ ty.bits }
     requires ty { IsPlain ty }
     requires wraps { ty.signed ≡ false → other ≡ None }
-    requires room { length terms.old.terms + 6 ≤ 2147483648 }
+    requires room { length terms.old.terms + 6 ≤ MOST_TERMS }
     ensures { IfOk result (λ r. IsChecked terms.old terms.new ty (8 * (10 * ty.bits + 32)) 6 r (λ v. result_in ty other (stands ty v a -ℤ stands ty v b))) }
 {
     if ty.signed {
@@ -180,7 +181,7 @@ pub fn product(
     requires width_b { b.width ≡ ty.bits }
     requires ty { IsPlain ty }
     requires wraps { ty.signed ≡ false → other ≡ None }
-    requires room { length terms.old.terms + 6 ≤ 2147483648 }
+    requires room { length terms.old.terms + 6 ≤ MOST_TERMS }
     ensures { IfOk result (λ r. IsChecked terms.old terms.new ty (8 * product_weight ty) 6 r (λ v. result_in ty other (stands ty v a *ℤ stands ty v b))) }
 {
     if ty.signed {
@@ -203,7 +204,7 @@ fn signed_minus(
     requires width { a.width ≡ ty.bits }
     requires ty { IsPlain ty }
     requires signed { ty.signed ≡ true }
-    requires room { length terms.old.terms + 5 ≤ 2147483648 }
+    requires room { length terms.old.terms + 5 ≤ MOST_TERMS }
     ensures { IfOk result (λ r. IsChecked terms.old terms.new ty (8 * (10 * ty.bits + 32)) 5 r (λ v. result_in ty other (neg_ℤ (stands ty v a)))) }
 {
     let x = sized_terms::resize(terms, a, ty.bits + 1, true)?;
@@ -227,7 +228,7 @@ pub fn minus(
     requires width { a.width ≡ ty.bits }
     requires ty { IsPlain ty }
     requires wraps { ty.signed ≡ false → other ≡ None }
-    requires room { length terms.old.terms + 5 ≤ 2147483648 }
+    requires room { length terms.old.terms + 5 ≤ MOST_TERMS }
     ensures { IfOk result (λ r. IsChecked terms.old terms.new ty (8 * (10 * ty.bits + 32)) 5 r (λ v. result_in ty other (neg_ℤ (stands ty v a)))) }
 {
     if ty.signed {
@@ -248,7 +249,7 @@ pub fn flipped(terms: &mut Terms, ty: IntType, a: SizedTerm) -> Result<SizedTerm
     requires has { Has terms.old a }
     requires width { a.width ≡ ty.bits }
     requires ty { IsPlain ty }
-    requires room { length terms.old.terms < 2147483648 }
+    requires room { length terms.old.terms < MOST_TERMS }
     ensures { IfOk result (λ t. IsChecked terms.old terms.new ty 0 1 (plain t) (λ v. Value (converted ty (neg_ℤ (stands ty v a) -ℤ pos 1)))) }
 {
     let value = sized_terms::one(terms, Op1::Not, a)?;

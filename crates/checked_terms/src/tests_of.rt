@@ -10,6 +10,7 @@ ghost use Rattle.joint_ir.specs.Values.{bit_of, bitwise as bits_of, is_zero, Val
 ghost use Rattle.joint_ir.specs.Weights.{convert_weight};
 ghost use Rattle.sized_terms.specs.Sized.{Has, IsMade, bits};
 ghost use Rattle.checked_terms.specs.Checked.{stands, IsChecked, plain, comparison_of};
+ghost use Rattle.word_eqs.specs.Graph.{MOST_TERMS};
 
 use bits_core::{Op1, Op2, Word};
 use joint_ir::IntType;
@@ -20,7 +21,7 @@ use word_eqs::Terms;
 /// Whether a term isn't 0, as a term of one bit.
 pub fn is_set(terms: &mut Terms, a: SizedTerm) -> Result<SizedTerm, AllocError>
     requires has { Has terms.old a }
-    requires room { length terms.old.terms < 2147483648 }
+    requires room { length terms.old.terms < MOST_TERMS }
     ensures { IfOk result (λ t. IsMade terms.old terms.new 1 (3 * a.width) 1 t (λ v. bit (nat_lt 0 (bits v a)))) }
 {
     let t = sized_terms::one(terms, Op1::RedOr, a)?;
@@ -31,7 +32,7 @@ pub fn is_set(terms: &mut Terms, a: SizedTerm) -> Result<SizedTerm, AllocError>
 pub fn opposite(terms: &mut Terms, from: IntType, a: SizedTerm) -> Result<SizedTerm, AllocError>
     requires has { Has terms.old a }
     requires width { a.width ≡ from.bits }
-    requires room { length terms.old.terms + 3 ≤ 2147483648 }
+    requires room { length terms.old.terms + 3 ≤ MOST_TERMS }
     ensures { IfOk result (λ t. IsChecked terms.old terms.new int (3 * a.width) 3 (plain t) (λ v. Value (bit_of (is_zero (stands from v a))))) }
 {
     let set = is_set(terms, a)?;
@@ -52,7 +53,7 @@ pub fn compare(
     requires second { Has terms.old b }
     requires same { b.width ≡ a.width }
     requires op { (w : ℕ) → width2 op w ≡ 1 }
-    requires room { length terms.old.terms + 3 ≤ 2147483648 }
+    requires room { length terms.old.terms + 3 ≤ MOST_TERMS }
     ensures { IfOk result (λ t. (test : Values → Bool) → ((v : Values) → bits v a < 2 ^ a.width → bits v b < 2 ^ b.width → value2 op a.width (bits v a) (bits v b) ≡ bit (test v)) → IsChecked terms.old terms.new int (gates2 op a.width) 3 (plain t) (λ v. Value (bit_of (comparison_of negated (test v))))) }
 {
     let holds = sized_terms::two(terms, op, a, b)?;
@@ -79,7 +80,7 @@ pub fn bitwise(
     requires width_a { a.width ≡ ty.bits }
     requires width_b { b.width ≡ ty.bits }
     requires op { width2 op ty.bits ≡ ty.bits }
-    requires room { length terms.old.terms < 2147483648 }
+    requires room { length terms.old.terms < MOST_TERMS }
     ensures { IfOk result (λ t. (f : ℕ → ℕ → ℕ) → ((x y : ℕ) → value2 op ty.bits x y ≡ f x y) → IsChecked terms.old terms.new ty (gates2 op ty.bits) 1 (plain t) (λ v. Value (bits_of f ty (stands ty v a) (stands ty v b)))) }
 {
     let t = sized_terms::two(terms, op, a, b)?;
@@ -96,7 +97,7 @@ pub fn converted(
     requires has { Has terms.old a }
     requires width { a.width ≡ from.bits }
     requires ty { IsType ty }
-    requires room { length terms.old.terms < 2147483648 }
+    requires room { length terms.old.terms < MOST_TERMS }
     ensures { IfOk result (λ t. IsChecked terms.old terms.new ty (8 * convert_weight ty from.bits) 1 (plain t) (λ v. Value (converted_to ty (stands from v a)))) }
 {
     if ty.truth {
@@ -126,7 +127,7 @@ fn low_bits(bits: u8, n: i128) -> Word
 pub fn literal(terms: &mut Terms, ty: IntType, n: i128) -> Result<SizedTerm, AllocError>
     requires ty { IsType ty }
     requires within { InRange ty n }
-    requires room { length terms.old.terms < 2147483648 }
+    requires room { length terms.old.terms < MOST_TERMS }
     ensures { IfOk result (λ t. IsChecked terms.old terms.new ty 0 1 (plain t) (λ v. Value n)) }
 {
     let word = low_bits(ty.bits, n);

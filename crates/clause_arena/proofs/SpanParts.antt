@@ -15,6 +15,7 @@ use Rattle.clause_arena.specs.declared.arena.Span.{Span}
 use Rattle.clause_arena.specs.Clause.{Clause, Clauses, clause_at, lit_eq, IsEachOnce, EachOnce}
 use Rattle.clause_arena.specs.Spans.{part, parts, AreInOrder, IsTable}
 use Rattle.clause_arena.proofs.Sets.{bool_iff, lit_eq-true, lit_eq-refl}
+use Rattle.clause_arena.specs.Arena.{MOST_CLAUSES}
 
 range-more : (lits more : List Lit) (i j : ℕ) → i ≤ j → j ≤ length lits → slice_range (lits ++ more) i j ≡ slice_range lits i j
 range-more lits more i j h l =
@@ -79,7 +80,7 @@ each_once-set (x ∷ xs) (suc i) o h e zero d q = h zero d q
 each_once-set (x ∷ xs) (suc i) o h e (suc id) d q = each_once-set xs i o (λ k. h (suc k)) e id d q
 
 -- the table once a clause was stored
-pub table-push : (lits more : List Lit) (spans : List (Option Span)) (from to : ℕ) → from ≡ length lits → to ≡ length lits + length more → length spans < 4294967295 → IsEachOnce more → IsTable lits spans → IsTable (lits ++ more) (spans ++ Some (record { from = from; to = to }) ∷ [])
+pub table-push : (lits more : List Lit) (spans : List (Option Span)) (from to : ℕ) → from ≡ length lits → to ≡ length lits + length more → length spans < MOST_CLAUSES → IsEachOnce more → IsTable lits spans → IsTable (lits ++ more) (spans ++ Some (record { from = from; to = to }) ∷ [])
 table-push lits more spans from to f t room e h =
     let p : Span = record { from = from; to = to } in
     let all = length-append lits more in
@@ -90,7 +91,7 @@ table-push lits more spans from to f t room e h =
     }
 
 -- The same as the code has it: after is the list of literals, and longer the spans, once more is stored.
-pub table-stored : (lits more after : List Lit) (spans longer : List (Option Span)) (from to : ℕ) → after ≡ lits ++ more → from ≡ length lits → to ≡ length after → longer ≡ spans ++ Some (record { from = from; to = to }) ∷ [] → length spans < 4294967295 → IsEachOnce more → IsTable lits spans → IsTable after longer × (parts after longer ≡ parts lits spans ++ Some more ∷ [])
+pub table-stored : (lits more after : List Lit) (spans longer : List (Option Span)) (from to : ℕ) → after ≡ lits ++ more → from ≡ length lits → to ≡ length after → longer ≡ spans ++ Some (record { from = from; to = to }) ∷ [] → length spans < MOST_CLAUSES → IsEachOnce more → IsTable lits spans → IsTable after longer × (parts after longer ≡ parts lits spans ++ Some more ∷ [])
 table-stored lits more after spans longer from to e f t g room once h =
     let t' : to ≡ length lits + length more = t ∙ ap length e ∙ length-append lits more in
     let P : List Lit → List (Option Span) → Type 0 = λ x y. IsTable x y × (parts x y ≡ parts lits spans ++ Some more ∷ []) in

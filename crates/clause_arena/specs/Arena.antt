@@ -9,6 +9,10 @@ pub record Arena : Type 0 where
   pub spare_clauses : ℕ
   pub spare_lits : ℕ
 
+-- so many clauses an arena names at most: each id is below the greatest number of 32 bits
+abbrev pub MOST_CLAUSES : ℕ
+MOST_CLAUSES = 4294967295
+
 -- the second can store at least what the first can
 pub record HasNoLessRoom (old new : Arena) : Type 0 where
   pub clauses : old.spare_clauses ≤ new.spare_clauses

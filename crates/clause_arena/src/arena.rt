@@ -5,7 +5,7 @@
 
 ghost use Rattle.std.specs.Prelude.{◌≡◌, ◌<◌, ◌≤◌, ◌+◌, slice_range, [], ◌∷◌, ◌++◌, length, slice_set, Some, None, IfOk, OnOk, OnErr, IsSome, IsSomeAnd, is_none, is_some, vec_len, vec_capacity, take, drop, ◌-◌, swap};
 ghost use Rattle.std.specs.Option.{ForSome};
-ghost use Rattle.clause_arena.specs.Arena.{HasNoLessRoom};
+ghost use Rattle.clause_arena.specs.Arena.{HasNoLessRoom, MOST_CLAUSES};
 ghost use Rattle.clause_arena.specs.Clause.{clause_at, IsEachOnce};
 ghost use Rattle.clause_arena.specs.Spans.{parts, AreInOrder};
 
@@ -143,7 +143,7 @@ impl ClauseArena {
     /// Gives the next id to a clause. It stores the list as it was handed in. Where memory is
     /// refused, the arena is as before.
     pub fn push(&mut self, lits: &[Lit]) -> Result<ClauseId, AllocError>
-        requires room { length self.old.clauses < 4294967295 }
+        requires room { length self.old.clauses < MOST_CLAUSES }
         requires distinct { IsEachOnce lits.now }
         ensures stored { OnOk result (self.new.clauses ≡ self.old.clauses ++ Some lits.now ∷ []) }
         ensures next { IfOk result (λ id. id.0 ≡ length self.old.clauses) }
@@ -156,7 +156,7 @@ impl ClauseArena {
 
     /// As `push`, in room that `reserve` made: it asks for no memory, and so cannot fail.
     pub fn push_reserved(&mut self, lits: &[Lit]) -> ClauseId
-        requires room { length self.old.clauses < 4294967295 }
+        requires room { length self.old.clauses < MOST_CLAUSES }
         requires distinct { IsEachOnce lits.now }
         requires spare_clause { 0 < self.old.spare_clauses }
         requires spare_lits { length lits.now ≤ self.old.spare_lits }

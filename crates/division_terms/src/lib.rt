@@ -9,6 +9,7 @@ ghost use Rattle.joint_ir.specs.Values.{binary_value, Value};
 ghost use Rattle.sized_terms.specs.Sized.{Has, IsMade, bits};
 ghost use Rattle.checked_terms.specs.Checked.{stands, IsChecked, IsPlain};
 ghost use Rattle.division_terms.specs.Division.{quotient_fits, divided};
+ghost use Rattle.word_eqs.specs.Graph.{MOST_TERMS};
 
 use bits_core::{Op1, Op2};
 use checked_terms::{Checked, check_for};
@@ -24,7 +25,7 @@ fn is_number(terms: &mut Terms, a: SizedTerm, number: u128) -> Result<SizedTerm,
     requires some { 0 < a.width }
     requires within { a.width ≤ 128 }
     requires below { number < 2 ^ a.width }
-    requires room { length terms.old.terms + 2 ≤ 2147483648 }
+    requires room { length terms.old.terms + 2 ≤ MOST_TERMS }
     ensures { IfOk result (λ t. IsMade terms.old terms.new 1 (4 * a.width) 2 t (λ v. bit (nat_eq (bits v a) number))) }
 {
     let n = sized_terms::constant(terms, a.width, number)?;
@@ -39,7 +40,7 @@ fn fits(terms: &mut Terms, a: SizedTerm, b: SizedTerm) -> Result<SizedTerm, Allo
     requires same { b.width ≡ a.width }
     requires some { 0 < a.width }
     requires within { a.width ≤ 64 }
-    requires room { length terms.old.terms + 6 ≤ 2147483648 }
+    requires room { length terms.old.terms + 6 ≤ MOST_TERMS }
     ensures { IfOk result (λ t. IsMade terms.old terms.new 1 (8 * a.width + 1) 6 t (λ v. bit (quotient_fits a.width (bits v a) (bits v b)))) }
 {
     let least = is_number(terms, a, half(a.width))?;
@@ -83,7 +84,7 @@ fn signed(
     requires width_b { b.width ≡ ty.bits }
     requires ty { IsPlain ty }
     requires op { width2 op ty.bits ≡ ty.bits }
-    requires room { length terms.old.terms + 7 ≤ 2147483648 }
+    requires room { length terms.old.terms + 7 ≤ MOST_TERMS }
     ensures { IfOk result (λ r. IsChecked terms.old terms.new ty (gates2 op ty.bits + 9 * ty.bits + 18) 7 r (λ v. divided division other ty.bits (bits v a) (bits v b) (Value (number ty.signed ty.bits (value2 op ty.bits (bits v a) (bits v b)))))) }
 {
     let within = fits(terms, a, b)?;
@@ -109,7 +110,7 @@ fn unsigned(
     requires width_a { a.width ≡ ty.bits }
     requires width_b { b.width ≡ ty.bits }
     requires op { width2 op ty.bits ≡ ty.bits }
-    requires room { length terms.old.terms + 1 ≤ 2147483648 }
+    requires room { length terms.old.terms + 1 ≤ MOST_TERMS }
     ensures { IfOk result (λ r. IsChecked terms.old terms.new ty (gates2 op ty.bits + 9 * ty.bits + 18) 7 r (λ v. divided division None ty.bits (bits v a) (bits v b) (Value (number ty.signed ty.bits (value2 op ty.bits (bits v a) (bits v b)))))) }
 {
     let value = sized_terms::two(terms, op, a, b)?;
@@ -136,7 +137,7 @@ pub fn quotient(
     requires ty { IsPlain ty }
     requires division { IsSome division }
     requires wraps { ty.signed ≡ false → other ≡ None }
-    requires room { length terms.old.terms + 7 ≤ 2147483648 }
+    requires room { length terms.old.terms + 7 ≤ MOST_TERMS }
     ensures { IfOk result (λ r. IsChecked terms.old terms.new ty (8 * (16 * (ty.bits * ty.bits) + 96 * ty.bits + 32)) 7 r (λ v. binary_value BinaryOp.Div ty division other (stands ty v a) (stands ty v b))) }
 {
     if ty.signed {
@@ -164,7 +165,7 @@ pub fn remainder(
     requires ty { IsPlain ty }
     requires division { IsSome division }
     requires wraps { ty.signed ≡ false → other ≡ None }
-    requires room { length terms.old.terms + 7 ≤ 2147483648 }
+    requires room { length terms.old.terms + 7 ≤ MOST_TERMS }
     ensures { IfOk result (λ r. IsChecked terms.old terms.new ty (8 * (16 * (ty.bits * ty.bits) + 96 * ty.bits + 32)) 7 r (λ v. binary_value BinaryOp.Rem ty division other (stands ty v a) (stands ty v b))) }
 {
     if ty.signed {

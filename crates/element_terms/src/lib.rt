@@ -6,6 +6,7 @@ ghost use Rattle.bits_core.specs.Word.{bit, number, at_zero};
 ghost use Rattle.joint_ir.specs.Steps.{is_within};
 ghost use Rattle.sized_terms.specs.Sized.{Has, IsMade, bits};
 ghost use Rattle.element_terms.specs.Elements.{AreElements, IsRead};
+ghost use Rattle.word_eqs.specs.Graph.{MOST_TERMS};
 
 use bits_core::Op2;
 use sized_terms::SizedTerm;
@@ -18,7 +19,7 @@ fn is_place(terms: &mut Terms, index: SizedTerm, place: u32) -> Result<SizedTerm
     requires some { 0 < index.width }
     requires within { index.width ≤ 128 }
     requires below { place < 2 ^ index.width }
-    requires room { length terms.old.terms + 2 ≤ 2147483648 }
+    requires room { length terms.old.terms + 2 ≤ MOST_TERMS }
     ensures { IfOk result (λ t. IsMade terms.old terms.new 1 (4 * index.width) 2 t (λ v. bit (nat_eq (bits v index) place))) }
 {
     let n = sized_terms::constant(terms, index.width, place as u128)?;
@@ -41,7 +42,7 @@ fn chosen(
     requires element { Has terms.old element }
     requires so_far { Has terms.old so_far }
     requires same { so_far.width ≡ element.width }
-    requires room { length terms.old.terms + 3 ≤ 2147483648 }
+    requires room { length terms.old.terms + 3 ≤ MOST_TERMS }
     ensures { IfOk result (λ t. IsMade terms.old terms.new element.width (4 * index.width + 3 * element.width) 3 t (λ v. at_zero (bit (nat_eq (bits v index) place)) (bits v so_far) (bits v element))) }
 {
     let here = is_place(terms, index, place)?;
@@ -63,7 +64,7 @@ pub fn read(
     requires elements { AreElements terms.old elements.now width }
     requires fits { length elements.now ≤ 2 ^ index.width }
     requires few { length elements.now < 4294967296 }
-    requires room { length terms.old.terms + 3 * length elements.now ≤ 2147483648 }
+    requires room { length terms.old.terms + 3 * length elements.now ≤ MOST_TERMS }
     ensures { IfOk result (λ t. IsRead terms.old terms.new index elements.now width (length elements.now) t) }
 {
     // The terms are a graph.
@@ -100,7 +101,7 @@ pub fn replaced(
     requires first { Has terms.old new }
     requires second { Has terms.old old }
     requires same { old.width ≡ new.width }
-    requires room { length terms.old.terms + 4 ≤ 2147483648 }
+    requires room { length terms.old.terms + 4 ≤ MOST_TERMS }
     ensures { IfOk result (λ t. IsMade terms.old terms.new new.width (4 * index.width + 1 + 3 * new.width) 4 t (λ v. at_zero (bit_and (bits v guard) (bit (nat_eq (bits v index) place))) (bits v old) (bits v new))) }
 {
     let here = is_place(terms, index, place)?;
@@ -127,7 +128,7 @@ pub fn within(
     requires has { Has terms.old index }
     requires some { 0 < index.width }
     requires wide { index.width ≤ 128 }
-    requires room { length terms.old.terms + 3 ≤ 2147483648 }
+    requires room { length terms.old.terms + 3 ≤ MOST_TERMS }
     ensures { IfOk result (λ t. IsMade terms.old terms.new 1 (10 * max 33 index.width) 3 t (λ v. bit (is_within count (number signed index.width (bits v index))))) }
 {
     let width = compared_width(index.width);

@@ -9,6 +9,7 @@ ghost use Rattle.checked_terms.specs.Checked.{stands};
 ghost use Rattle.element_terms.specs.Elements.{AreElements};
 ghost use Rattle.expression_steps.specs.Asking.{IsDone};
 ghost use Rattle.expression_steps.specs.Objects.{numbers_of};
+ghost use Rattle.word_eqs.specs.Graph.{MOST_TERMS};
 
 use crate::steps::push_checks;
 use checked_terms::{Check, Checked};
@@ -26,7 +27,7 @@ const MOST: usize = 268435456;
 fn counted(net: &Unrolled, elements: &[TermId]) -> Result<u32, AllocError>
     ensures count { IfOk result (λ n. n ≡ length elements.now) }
     ensures few { IfOk result (λ n. n ≤ 268435456) }
-    ensures room { IfOk result (λ n. length net.now.terms.terms + (3 + 3 * n) ≤ 2147483648) }
+    ensures room { IfOk result (λ n. length net.now.terms.terms + (3 + 3 * n) ≤ MOST_TERMS) }
 {
     if elements.len() > MOST {
         return Err(AllocError);

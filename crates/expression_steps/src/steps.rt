@@ -8,8 +8,8 @@ use bits_core::{Op1, Op2};
 use checked_terms::{Check, Checked};
 use sized_terms::SizedTerm;
 use std::alloc::AllocError;
-use unrolled::{ROOM, Unrolled, room};
-use word_eqs::{Act, Step};
+use unrolled::{Unrolled, room};
+use word_eqs::{Act, MOST_TERMS, Step};
 
 /// Whether a term isn't 0, with a guard for where it isn't, and one for where it is.
 #[derive(Clone, Copy, Debug, PartialEq, Eq)]
@@ -31,7 +31,7 @@ pub fn push_check(
     match check {
         None => Ok(()),
         Some(c) => {
-            if net.list.len() >= ROOM {
+            if net.list.len() >= MOST_TERMS {
                 return Err(AllocError);
             }
             net.list.push(Step {

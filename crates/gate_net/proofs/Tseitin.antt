@@ -15,6 +15,7 @@ use Rattle.gate_net.specs.declared.net.Node.TheVariants.{One, Input, And}
 use Rattle.gate_net.specs.Edge.{edge_value}
 use Rattle.gate_net.specs.Net.{NodeHolds, IsValuation, IsPlaced}
 use Rattle.gate_net.specs.Clauses.{lit_of, node_clauses, Fits}
+use Rattle.clause_arena.specs.Arena.{MOST_CLAUSES}
 
 pub once-one : (x : Lit) → IsEachVariableOnce (x ∷ [])
 unfolding IsDistinct
@@ -204,7 +205,7 @@ count-of_net (x ∷ xs) root cs e h =
     omega (arith, ap length e, length-append (clauses_from 0 (x ∷ xs)) (Some (lit_of root ∷ []) ∷ []), length-append (node_clauses 0 x) (clauses_from 1 xs), first, length-clauses_from 1 xs)
 
 -- there is room for the clauses of one more node
-pub room-of_net : (net : List Node) (i : ℕ) (cs : Clauses) → cs ≡ clauses_from 0 (take i net) → length net ≤ 1073741824 → length cs + 3 ≤ 4294967295
+pub room-of_net : (net : List Node) (i : ℕ) (cs : Clauses) → cs ≡ clauses_from 0 (take i net) → length net ≤ 1073741824 → length cs + 3 ≤ MOST_CLAUSES
 room-of_net net i cs e l = omega (arith, ap length e, length-clauses_from 0 (take i net), length-take i net)
 
 -- the clauses once those of one more node are there

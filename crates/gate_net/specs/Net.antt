@@ -3,7 +3,7 @@
 -- A net is an and-inverter graph (A. Kuehlmann, V. Paruthi, F. Krohm and M. K. Ganai, Robust Boolean
 -- reasoning for equivalence checking and functional property verification, IEEE Transactions on
 -- Computer-Aided Design 21, 2002), as the list of its nodes.
-use Rattle.std.specs.Prelude.{◌≡◌, ◌≢◌, ℕ, ◌<◌, ◌≤◌, ◌^◌, Bool, true, false, ◌&&◌, List, ◌++◌, length, slice_get, Some}
+use Rattle.std.specs.Prelude.{◌≡◌, ◌≢◌, ℕ, ◌<◌, ◌≤◌, Bool, true, false, ◌&&◌, List, ◌++◌, length, slice_get, Some}
 use Rattle.std.specs.List.{list_all}
 use Rattle.std.specs.Option.{ForSome}
 use Rattle.gate_net.specs.declared.net.Edge.{Edge}
@@ -55,8 +55,12 @@ IsPlaced i One = i ≡ 0
 IsPlaced i Input = 0 < i
 IsPlaced i (And g) = (g.left.node < i) × (g.right.node < i) × (g.left.node ≢ g.right.node)
 
+-- so many nodes a net has at most: an edge of 32 bits names each of them with its sign
+abbrev pub MOST_NODES : ℕ
+MOST_NODES = 2147483648
+
 -- what the nodes of a net keep
 pub record IsNet (nodes : List Node) : Type 0 where
-  pub few : length nodes ≤ 2 ^ 31
+  pub few : length nodes ≤ MOST_NODES
   pub starts : slice_get nodes 0 ≡ Some One
   pub placed : (i : ℕ) → ForSome (slice_get nodes i) (IsPlaced i)

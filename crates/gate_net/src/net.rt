@@ -3,6 +3,7 @@
 
 ghost use Rattle.std.specs.Prelude.{◌≡◌, ◌≢◌, ◌<◌, ◌≤◌, ◌+◌, ◌^◌, [], ◌∷◌, ◌++◌, length, slice_get, IfOk, OnOk, OnErr, Some, IfSome, IfNone, ◌&&◌, ℕ, Bool, true, false};
 ghost use Rattle.gate_net.specs.Edge.{edge_value, opposite_edge};
+ghost use Rattle.gate_net.specs.Net.{MOST_NODES};
 
 use indexmap::IndexMap;
 use std::alloc::{AllocError, Global};
@@ -114,7 +115,7 @@ impl Net {
     /// How many nodes there are, the constant and the inputs counted.
     pub fn count(&self) -> u32
         ensures count { result ≡ length self.now }
-        ensures few { result ≤ 2 ^ 31 }
+        ensures few { result ≤ MOST_NODES }
     {
         self.nodes.len() as u32
     }
@@ -129,7 +130,7 @@ impl Net {
 
     /// A new node whose value is free. Where memory is refused, the net is as before.
     pub fn input(&mut self) -> Result<Edge, AllocError>
-        requires { length self.old < 2 ^ 31 }
+        requires { length self.old < MOST_NODES }
         ensures added { OnOk result (self.new ≡ self.old ++ Input ∷ []) }
         ensures edge { IfOk result (λ e. e ≡ record { node = length self.old; negated = false }) }
         ensures unchanged { OnErr result (self.new ≡ self.old) }
@@ -146,7 +147,7 @@ impl Net {
     /// constant, equal or opposite edges or a gate that is there already will do. Where memory is
     /// refused, the net is as before.
     pub fn and(&mut self, a: Edge, b: Edge) -> Result<Edge, AllocError>
-        requires room { length self.old < 2 ^ 31 }
+        requires room { length self.old < MOST_NODES }
         requires left { a.node < length self.old }
         requires right { b.node < length self.old }
         ensures extends { OnOk result (Extends self.old self.new) }
@@ -202,7 +203,7 @@ impl Net {
     }
 
     fn put(&mut self, gate: Gate) -> Result<Edge, AllocError>
-        requires room { length self.old < 2 ^ 31 }
+        requires room { length self.old < MOST_NODES }
         requires placed { IsPlaced (length self.old) (And gate) }
         ensures added { OnOk result (self.new ≡ self.old ++ And gate ∷ []) }
         ensures edge { IfOk result (λ e. e ≡ record { node = length self.old; negated = false }) }

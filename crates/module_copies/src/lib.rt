@@ -3,7 +3,7 @@
 #![tactic(auto)]
 
 ghost use Rattle.std.specs.Prelude.{◌≡◌, ◌+◌, ◌<◌, ◌≤◌, All, length, count_by, IfOk, OnOk};
-ghost use Rattle.word_eqs.specs.Graph.{places, is_no_var};
+ghost use Rattle.word_eqs.specs.Graph.{places, is_no_var, MOST_TERMS};
 ghost use Rattle.word_eqs.specs.Import.{AreSubs};
 ghost use Rattle.word_eqs.specs.declared.term.TermId.{TermId as Id};
 ghost use Rattle.module_copies.specs.Copying.{AreCopied, IsPicked};
@@ -17,7 +17,7 @@ const MOST: u32 = 1073741824;
 
 /// Tells whether there is room for a copy of so many terms.
 fn room_for(net: &Unrolled, from: &Terms) -> Result<(), AllocError>
-    ensures { OnOk result (length net.now.terms.terms + count_by is_no_var from.now.terms ≤ 2147483648) }
+    ensures { OnOk result (length net.now.terms.terms + count_by is_no_var from.now.terms ≤ MOST_TERMS) }
 {
     let count = from.len();
     if count > MOST {

@@ -8,7 +8,7 @@ ghost use Rattle.flat_tree.specs.Operators.{truth, is_reduction, unary_value};
 ghost use Rattle.operator_terms.specs.Ways.{unary_way_value, is_made};
 ghost use Rattle.term_steps.specs.Adds.{Adds};
 ghost use Rattle.word_eqs.specs.Gates.{gates1};
-ghost use Rattle.word_eqs.specs.Graph.{IsGraph, width_in};
+ghost use Rattle.word_eqs.specs.Graph.{IsGraph, width_in, MOST_TERMS};
 
 use bits_core::{Op1, Op2};
 use std::alloc::AllocError;
@@ -77,7 +77,7 @@ pub fn unary_way(op: UnaryOp) -> UnaryWay
 /// A unary operator on a term.
 pub fn unary(terms: &mut Terms, way: UnaryWay, a: TermId) -> Result<TermId, AllocError>
     requires a { a.0 < length terms.old.terms }
-    requires room { length terms.old.terms + 2 ≤ 2147483648 }
+    requires room { length terms.old.terms + 2 ≤ MOST_TERMS }
     ensures adds { IfOk result (λ t. Adds terms.old terms.new (width1 way.op (width_in terms.old a.0)) (λ v. unary_way_value way (width_in terms.old a.0) (v.term a.0).value) (gates1 way.op (width_in terms.old a.0)) 2 t.0) }
     ensures proper { IsGraph terms.new }
 {
@@ -93,7 +93,7 @@ pub fn unary(terms: &mut Terms, way: UnaryWay, a: TermId) -> Result<TermId, Allo
 pub fn logical(terms: &mut Terms, and: bool, a: TermId, b: TermId) -> Result<TermId, AllocError>
     requires a { a.0 < length terms.old.terms }
     requires b { b.0 < length terms.old.terms }
-    requires room { length terms.old.terms + 3 ≤ 2147483648 }
+    requires room { length terms.old.terms + 3 ≤ MOST_TERMS }
     ensures adds { IfOk result (λ t. Adds terms.old terms.new 1 (λ v. bit (if and then truth (v.term a.0).value && truth (v.term b.0).value else truth (v.term a.0).value || truth (v.term b.0).value)) (3 * width_in terms.old a.0 + 3 * width_in terms.old b.0 + 1) 3 t.0) }
     ensures proper { IsGraph terms.new }
 {
@@ -113,7 +113,7 @@ pub fn branch(terms: &mut Terms, test: TermId, a: TermId, b: TermId) -> Result<T
     requires a { a.0 < length terms.old.terms }
     requires b { b.0 < length terms.old.terms }
     requires width { width_in terms.old b.0 ≡ width_in terms.old a.0 }
-    requires room { length terms.old.terms + 2 ≤ 2147483648 }
+    requires room { length terms.old.terms + 2 ≤ MOST_TERMS }
     ensures adds { IfOk result (λ t. Adds terms.old terms.new (width_in terms.old a.0) (λ v. if truth (v.term test.0).value then (v.term a.0).value else (v.term b.0).value) (3 * width_in terms.old test.0 + 3 * width_in terms.old a.0) 2 t.0) }
     ensures proper { IsGraph terms.new }
 {

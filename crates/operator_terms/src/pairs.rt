@@ -8,7 +8,7 @@ ghost use Rattle.flat_tree.specs.Operators.{form_of, binary_value};
 ghost use Rattle.operator_terms.specs.Ways.{way_value, ordered as ordered_value, is_paired, paired_width};
 ghost use Rattle.term_steps.specs.Adds.{Adds};
 ghost use Rattle.word_eqs.specs.Gates.{gates2};
-ghost use Rattle.word_eqs.specs.Graph.{IsGraph, width_in};
+ghost use Rattle.word_eqs.specs.Graph.{IsGraph, width_in, MOST_TERMS};
 
 use bits_core::{Op1, Op2};
 use std::alloc::AllocError;
@@ -275,7 +275,7 @@ fn ordered(terms: &mut Terms, way: Way, a: TermId, b: TermId) -> Result<TermId, 
     requires a { a.0 < length terms.old.terms }
     requires b { b.0 < length terms.old.terms }
     requires width { width_in terms.old b.0 ≡ width_in terms.old a.0 }
-    requires room { length terms.old.terms + 1 ≤ 2147483648 }
+    requires room { length terms.old.terms + 1 ≤ MOST_TERMS }
     ensures adds { IfOk result (λ t. Adds terms.old terms.new (width2 way.op (width_in terms.old a.0)) (λ v. ordered_value way.swapped way.op (width_in terms.old a.0) (v.term a.0).value (v.term b.0).value) (gates2 way.op (width_in terms.old a.0)) 1 t.0) }
     ensures proper { IsGraph terms.new }
 {
@@ -292,7 +292,7 @@ pub fn operate(terms: &mut Terms, way: Way, a: TermId, b: TermId) -> Result<Term
     requires a { a.0 < length terms.old.terms }
     requires b { b.0 < length terms.old.terms }
     requires width { width_in terms.old b.0 ≡ width_in terms.old a.0 }
-    requires room { length terms.old.terms + 2 ≤ 2147483648 }
+    requires room { length terms.old.terms + 2 ≤ MOST_TERMS }
     ensures adds { IfOk result (λ t. Adds terms.old terms.new (width2 way.op (width_in terms.old a.0)) (λ v. way_value way (width_in terms.old a.0) (v.term a.0).value (v.term b.0).value) (gates2 way.op (width_in terms.old a.0)) 2 t.0) }
     ensures proper { IsGraph terms.new }
 {
@@ -318,7 +318,7 @@ pub fn divided(
     requires width { width_in terms.old b.0 ≡ width_in terms.old a.0 }
     requires sites { width_in terms.old site.0 ≡ width_in terms.old a.0 }
     requires same { width2 way.op (width_in terms.old a.0) ≡ width_in terms.old a.0 }
-    requires room { length terms.old.terms + 4 ≤ 2147483648 }
+    requires room { length terms.old.terms + 4 ≤ MOST_TERMS }
     ensures adds { IfOk result (λ t. Adds terms.old terms.new (width_in terms.old a.0) (λ v. at_zero (v.term b.0).value (v.term site.0).value (way_value way (width_in terms.old a.0) (v.term a.0).value (v.term b.0).value)) (gates2 way.op (width_in terms.old a.0) + 6 * width_in terms.old a.0) 4 t.0) }
     ensures proper { IsGraph terms.new }
 {

@@ -6,7 +6,7 @@ ghost use Rattle.flat_tree.specs.Operators.{Shifting, form_of, binary_value};
 ghost use Rattle.operator_terms.specs.Ways.{looks as looks_at, is_shift};
 ghost use Rattle.term_steps.specs.Adds.{Adds};
 ghost use Rattle.word_eqs.specs.Gates.{gates2};
-ghost use Rattle.word_eqs.specs.Graph.{IsGraph, width_in};
+ghost use Rattle.word_eqs.specs.Graph.{IsGraph, width_in, MOST_TERMS};
 
 use bits_core::Op2;
 use std::alloc::AllocError;
@@ -44,7 +44,7 @@ fn narrow(terms: &mut Terms, op: Op2, a: TermId, b: TermId) -> Result<TermId, Al
     requires b { b.0 < length terms.old.terms }
     requires shift { is_shift op ≡ true }
     requires order { width_in terms.old b.0 ≤ width_in terms.old a.0 }
-    requires room { length terms.old.terms + 3 ≤ 2147483648 }
+    requires room { length terms.old.terms + 3 ≤ MOST_TERMS }
     ensures adds { IfOk result (λ t. Adds terms.old terms.new (width_in terms.old a.0) (λ v. value2 op (width_in terms.old a.0) (v.term a.0).value (v.term b.0).value) (40 * max (width_in terms.old a.0) (width_in terms.old b.0)) 3 t.0) }
     ensures proper { IsGraph terms.new }
 {
@@ -60,7 +60,7 @@ fn wide(terms: &mut Terms, op: Op2, a: TermId, b: TermId) -> Result<TermId, Allo
     requires b { b.0 < length terms.old.terms }
     requires shift { is_shift op ≡ true }
     requires order { width_in terms.old a.0 ≤ width_in terms.old b.0 }
-    requires room { length terms.old.terms + 3 ≤ 2147483648 }
+    requires room { length terms.old.terms + 3 ≤ MOST_TERMS }
     ensures adds { IfOk result (λ t. Adds terms.old terms.new (width_in terms.old a.0) (λ v. value2 op (width_in terms.old a.0) (v.term a.0).value (v.term b.0).value) (40 * max (width_in terms.old a.0) (width_in terms.old b.0)) 3 t.0) }
     ensures proper { IsGraph terms.new }
 {
@@ -77,7 +77,7 @@ pub fn shift(terms: &mut Terms, op: Op2, a: TermId, b: TermId) -> Result<TermId,
     requires a { a.0 < length terms.old.terms }
     requires b { b.0 < length terms.old.terms }
     requires shift { is_shift op ≡ true }
-    requires room { length terms.old.terms + 3 ≤ 2147483648 }
+    requires room { length terms.old.terms + 3 ≤ MOST_TERMS }
     ensures adds { IfOk result (λ t. Adds terms.old terms.new (width_in terms.old a.0) (λ v. value2 op (width_in terms.old a.0) (v.term a.0).value (v.term b.0).value) (40 * max (width_in terms.old a.0) (width_in terms.old b.0)) 3 t.0) }
     ensures proper { IsGraph terms.new }
 {

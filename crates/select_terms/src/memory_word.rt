@@ -2,7 +2,7 @@
 
 ghost use Rattle.std.specs.Prelude.{true, ◌≡◌, ◌+◌, ◌-◌, ◌*◌, ◌^◌, ◌<◌, ◌≤◌, All, length, slice_index, nat_eq, nat_lt, if◌then◌else◌, IfOk};
 ghost use Rattle.bits_core.specs.Word.{number, bit, at_zero};
-ghost use Rattle.word_eqs.specs.Graph.{IsGraph, width_in, places};
+ghost use Rattle.word_eqs.specs.Graph.{IsGraph, width_in, places, MOST_TERMS};
 ghost use Rattle.word_eqs.specs.declared.term.TermId.{TermId as Id};
 ghost use Rattle.term_steps.specs.Adds.{Adds};
 ghost use Rattle.flat_tree.specs.Measures.{word_row, node};
@@ -44,7 +44,7 @@ fn chosen(
     requires word { word.0 < length terms.old.terms }
     requires so_far { so_far.0 < length terms.old.terms }
     requires width { width_in terms.old so_far.0 ≡ width_in terms.old word.0 }
-    requires room { length terms.old.terms + 3 ≤ 2147483648 }
+    requires room { length terms.old.terms + 3 ≤ MOST_TERMS }
     requires fits { place < 2 ^ width_in terms.old index.0 }
     ensures adds { IfOk result (λ t. Adds terms.old terms.new (width_in terms.old word.0) (λ v. at_zero (bit (nat_eq (v.term index.0).value place)) (v.term so_far.0).value (v.term word.0).value) (4 * width_in terms.old index.0 + 3 * width_in terms.old word.0) 3 t.0) }
     ensures proper { IsGraph terms.new }
@@ -69,7 +69,7 @@ fn found(
     requires word { word.0 < length terms.old.terms }
     requires so_far { so_far.0 < length terms.old.terms }
     requires width { width_in terms.old so_far.0 ≡ width_in terms.old word.0 }
-    requires room { length terms.old.terms + 3 ≤ 2147483648 }
+    requires room { length terms.old.terms + 3 ≤ MOST_TERMS }
     ensures adds { IfOk result (λ t. Adds terms.old terms.new (width_in terms.old word.0) (λ v. found_then signed (width_in terms.old index.0) (v.term index.0).value place (v.term so_far.0).value (v.term word.0).value) (4 * width_in terms.old index.0 + 3 * width_in terms.old word.0) 3 t.0) }
     ensures proper { IsGraph terms.new }
 {
@@ -95,7 +95,7 @@ pub fn read_word(
     requires words { All (λ (t : Id). t.0 < length terms.old.terms) words.now }
     requires widths { All (λ (t : Id). width_in terms.old t.0 ≡ width_in terms.old site.0) words.now }
     requires few { length words.now ≤ 4096 }
-    requires room { length terms.old.terms + 3 * length words.now ≤ 2147483648 }
+    requires room { length terms.old.terms + 3 * length words.now ≤ MOST_TERMS }
     ensures adds { IfOk result (λ t. Adds terms.old terms.new (width_in terms.old site.0) (λ v. word_read (λ j. (v.term (slice_index (places words.now) j)).value) (length words.now) (v.term site.0).value (number signed (width_in terms.old index.0) (v.term index.0).value)) (8 * (word_row true (length words.now) (width_in terms.old site.0) (width_in terms.old index.0) + node)) (3 * length words.now) t.0) }
     ensures proper { IsGraph terms.new }
 {

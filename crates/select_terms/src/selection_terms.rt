@@ -6,7 +6,7 @@
 
 ghost use Rattle.std.specs.Prelude.{false, ◌≡◌, ◌+◌, ◌-◌, ◌*◌, ◌/◌, ◌%◌, ◌^◌, ◌<◌, ◌≤◌, length, max, true, pos, ◌-ℤ◌, nat_lt, bit_and, bit_or, if◌then◌else◌, IfOk};
 ghost use Rattle.bits_core.specs.Word.{number, modulo, resized};
-ghost use Rattle.word_eqs.specs.Graph.{IsGraph, width_in};
+ghost use Rattle.word_eqs.specs.Graph.{IsGraph, width_in, MOST_TERMS};
 ghost use Rattle.word_eqs.specs.Meaning.{Values};
 ghost use Rattle.term_steps.specs.Adds.{Adds};
 ghost use Rattle.select_terms.specs.Shifted.{mixed, place_of};
@@ -51,7 +51,7 @@ fn place(
     requires there { index.0 < length terms.old.terms }
     requires some { 0 < width }
     requires within { width ≤ 128 }
-    requires room { length terms.old.terms + 3 ≤ 2147483648 }
+    requires room { length terms.old.terms + 3 ≤ MOST_TERMS }
     ensures adds { IfOk result (λ t. Adds terms.old terms.new width (λ v. (resized width signed (width_in terms.old index.0) (v.term index.0).value + modulo width (pos (bits % 2 ^ width) -ℤ pos (lowest % 2 ^ width))) % 2 ^ width) (10 * width) 3 t.0) }
     ensures proper { IsGraph terms.new }
 {
@@ -69,7 +69,7 @@ fn bits_from(terms: &mut Terms, a: TermId, bits: u8, place: TermId) -> Result<Te
     requires place { place.0 < length terms.old.terms }
     requires some { 0 < bits }
     requires fits { width_in terms.old a.0 + bits ≤ width_in terms.old place.0 }
-    requires room { length terms.old.terms + 5 ≤ 2147483648 }
+    requires room { length terms.old.terms + 5 ≤ MOST_TERMS }
     ensures adds { IfOk result (λ t. Adds terms.old terms.new bits (λ v. ((v.term a.0).value * 2 ^ bits) / 2 ^ (v.term place.0).value % 2 ^ bits) (40 * width_in terms.old place.0) 5 t.0) }
     ensures proper { IsGraph terms.new }
 {
@@ -94,7 +94,7 @@ fn either(
     requires second { second.0 < length terms.old.terms }
     requires masks { width_in terms.old mask.0 ≡ width_in terms.old first.0 }
     requires seconds { width_in terms.old second.0 ≡ width_in terms.old first.0 }
-    requires room { length terms.old.terms + 3 ≤ 2147483648 }
+    requires room { length terms.old.terms + 3 ≤ MOST_TERMS }
     ensures adds { IfOk result (λ t. Adds terms.old terms.new (width_in terms.old first.0) (λ v. bit_or (v.term first.0).value (bit_and (v.term second.0).value (2 ^ width_in terms.old first.0 - 1 - (v.term mask.0).value))) (2 * width_in terms.old first.0) 3 t.0) }
     ensures proper { IsGraph terms.new }
 {
@@ -119,7 +119,7 @@ fn shifted(
     requires site { site.0 < length terms.old.terms }
     requires fits { width_in terms.old signal.0 + width_in terms.old site.0 ≤ width }
     requires within { width ≤ 128 }
-    requires room { length terms.old.terms + 17 ≤ 2147483648 }
+    requires room { length terms.old.terms + 17 ≤ MOST_TERMS }
     ensures adds { IfOk result (λ t. Adds terms.old terms.new (width_in terms.old site.0) (λ v. mixed (width_in terms.old site.0) (width_in terms.old signal.0) (v.term signal.0).value (v.term site.0).value (place_of width signed (width_in terms.old index.0) (v.term index.0).value (width_in terms.old site.0) lowest)) (90 * width + 2 * width_in terms.old site.0) 17 t.0) }
     ensures proper { IsGraph terms.new }
 {
@@ -147,7 +147,7 @@ fn within_reach(
     requires site { site.0 < length terms.old.terms }
     requires narrow { width_in terms.old index.0 < 128 }
     requires fits { width_in terms.old signal.0 + width_in terms.old site.0 ≤ 128 }
-    requires room { length terms.old.terms + 17 ≤ 2147483648 }
+    requires room { length terms.old.terms + 17 ≤ MOST_TERMS }
     requires reach { lowest < width_in terms.old site.0 + (if signed then 2 ^ (width_in terms.old index.0 - 1) else 2 ^ width_in terms.old index.0) }
     ensures adds { IfOk result (λ t. Adds terms.old terms.new (width_in terms.old site.0) (λ v. bits_read (width_in terms.old site.0) (width_in terms.old signal.0) (v.term signal.0).value (v.term site.0).value (number signed (width_in terms.old index.0) (v.term index.0).value -ℤ pos lowest)) (90 * max (width_in terms.old index.0 + 1) (width_in terms.old signal.0 + width_in terms.old site.0) + 2 * width_in terms.old site.0) 17 t.0) }
     ensures proper { IsGraph terms.new }
@@ -174,7 +174,7 @@ fn at_full_width(
     requires wide { width_in terms.old index.0 ≡ 128 }
     requires fits { width_in terms.old signal.0 + width_in terms.old site.0 ≤ 128 }
     requires lowest { lowest < 2 ^ 33 }
-    requires room { length terms.old.terms + 17 ≤ 2147483648 }
+    requires room { length terms.old.terms + 17 ≤ MOST_TERMS }
     ensures adds { IfOk result (λ t. Adds terms.old terms.new (width_in terms.old site.0) (λ v. bits_read (width_in terms.old site.0) (width_in terms.old signal.0) (v.term signal.0).value (v.term site.0).value (number true (width_in terms.old index.0) (v.term index.0).value -ℤ pos lowest)) (90 * 128 + 2 * width_in terms.old site.0) 17 t.0) }
     ensures proper { IsGraph terms.new }
 {
@@ -198,7 +198,7 @@ fn widest(
     requires wide { width_in terms.old index.0 ≡ 128 }
     requires fits { width_in terms.old signal.0 + width_in terms.old site.0 ≤ 128 }
     requires lowest { lowest < 2 ^ 33 }
-    requires room { length terms.old.terms + 19 ≤ 2147483648 }
+    requires room { length terms.old.terms + 19 ≤ MOST_TERMS }
     ensures adds { IfOk result (λ t. Adds terms.old terms.new (width_in terms.old site.0) (λ v. bits_read (width_in terms.old site.0) (width_in terms.old signal.0) (v.term signal.0).value (v.term site.0).value (number signed (width_in terms.old index.0) (v.term index.0).value -ℤ pos lowest)) (90 * 128 + 5 * width_in terms.old site.0) 19 t.0) }
     ensures proper { IsGraph terms.new }
 {
@@ -226,7 +226,7 @@ pub fn select(
     requires site { site.0 < length terms.old.terms }
     requires fits { width_in terms.old signal.0 + width_in terms.old site.0 ≤ 128 }
     requires lowest { lowest < 2 ^ 33 }
-    requires room { length terms.old.terms + 19 ≤ 2147483648 }
+    requires room { length terms.old.terms + 19 ≤ MOST_TERMS }
     ensures adds { IfOk result (λ t. Adds terms.old terms.new (width_in terms.old site.0) (λ v. bits_read (width_in terms.old site.0) (width_in terms.old signal.0) (v.term signal.0).value (v.term site.0).value (number signed (width_in terms.old index.0) (v.term index.0).value -ℤ pos lowest)) (8 * (select_row false true (width_in terms.old signal.0) (width_in terms.old index.0) (width_in terms.old site.0) + node)) 19 t.0) }
     ensures proper { IsGraph terms.new }
 {

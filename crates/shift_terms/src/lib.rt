@@ -6,6 +6,7 @@ ghost use Rattle.joint_ir.specs.Values.{binary_value};
 ghost use Rattle.sized_terms.specs.Sized.{Has, IsMade, bits};
 ghost use Rattle.checked_terms.specs.Checked.{stands, IsChecked, IsPlain};
 ghost use Rattle.shift_terms.specs.Shifts.{IsAmountOf, keeps_bit, right_op_of};
+ghost use Rattle.word_eqs.specs.Graph.{MOST_TERMS};
 
 use bits_core::{Op1, Op2};
 use checked_terms::{Checked, check_for};
@@ -34,7 +35,7 @@ fn amount_of(
     requires ty { IsPlain ty }
     requires wide { 32 ≤ from.bits }
     requires narrow { from.bits ≤ 64 }
-    requires room { length terms.old.terms + 3 ≤ 2147483648 }
+    requires room { length terms.old.terms + 3 ≤ MOST_TERMS }
     ensures { IfOk result (λ r. IsAmountOf terms.old terms.new ty from b r) }
 {
     let limit = sized_terms::constant(terms, b.width, ty.bits as u128)?;
@@ -60,7 +61,7 @@ fn keeps(
     requires bit { within.width ≡ 1 }
     requires some { 0 < a.width }
     requires few { a.width ≤ 64 }
-    requires room { length terms.old.terms + 7 ≤ 2147483648 }
+    requires room { length terms.old.terms + 7 ≤ MOST_TERMS }
     ensures { IfOk result (λ t. IsMade terms.old terms.new 1 (54 * a.width + 2) 7 t (λ v. keeps_bit a.width (bits v a) (bits v by) (bits v shifted) (bits v within))) }
 {
     let back = sized_terms::two(terms, Op2::ShrS, shifted, by)?;
@@ -90,7 +91,7 @@ pub fn left(
     requires wide { 32 ≤ from.bits }
     requires narrow { from.bits ≤ 64 }
     requires shift { IsSome prop }
-    requires room { length terms.old.terms + 11 ≤ 2147483648 }
+    requires room { length terms.old.terms + 11 ≤ MOST_TERMS }
     ensures { IfOk result (λ r. IsChecked terms.old terms.new ty (8 * (84 * max ty.bits from.bits + 12 * from.bits + 32)) 11 r (λ v. binary_value BinaryOp.Shl ty None prop (stands ty v a) (stands from v b))) }
 {
     let amount = amount_of(terms, ty, from, b)?;
@@ -135,7 +136,7 @@ pub fn right(
     requires wide { 32 ≤ from.bits }
     requires narrow { from.bits ≤ 64 }
     requires shift { IsSome prop }
-    requires room { length terms.old.terms + 11 ≤ 2147483648 }
+    requires room { length terms.old.terms + 11 ≤ MOST_TERMS }
     ensures { IfOk result (λ r. IsChecked terms.old terms.new ty (8 * (84 * max ty.bits from.bits + 12 * from.bits + 32)) 11 r (λ v. binary_value BinaryOp.Shr ty None prop (stands ty v a) (stands from v b))) }
 {
     let amount = amount_of(terms, ty, from, b)?;

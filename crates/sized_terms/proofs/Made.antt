@@ -8,7 +8,7 @@ use Rattle.word_eqs.specs.declared.term.TermId.{TermId}
 use Rattle.word_eqs.specs.declared.term.TermNode.{TermNode}
 use Rattle.word_eqs.specs.declared.term.TermNode.TheVariants.{Const, One, Two, Choose, Resize, Slice}
 use Rattle.word_eqs.specs.Gates.{term_gates, node_gates, gates1, gates2}
-use Rattle.word_eqs.specs.Graph.{Graph, IsGraph, IsTyped, width_in, node_width, with_term}
+use Rattle.word_eqs.specs.Graph.{Graph, IsGraph, IsTyped, node_width, with_term}
 use Rattle.word_eqs.specs.Meaning.{Values, Respects, Makes, node_word}
 use Rattle.word_eqs.proofs.Evals.{words_of_terms}
 use Rattle.sized_terms.specs.declared.SizedTerm.{SizedTerm}

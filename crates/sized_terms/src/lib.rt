@@ -8,6 +8,7 @@ ghost use Rattle.bits_core.specs.Ops.{width1, width2, value1, value2};
 ghost use Rattle.bits_core.specs.Word.{at_zero, resized};
 ghost use Rattle.word_eqs.specs.Gates.{gates1, gates2};
 ghost use Rattle.sized_terms.specs.Sized.{Has, IsMade, bits};
+ghost use Rattle.word_eqs.specs.Graph.{MOST_TERMS};
 
 use bits_core::{Op1, Op2, Word};
 use std::alloc::AllocError;
@@ -24,7 +25,7 @@ pub struct SizedTerm {
 pub fn constant(terms: &mut Terms, width: u8, number: u128) -> Result<SizedTerm, AllocError>
     requires some { 0 < width }
     requires within { width ≤ 128 }
-    requires room { length terms.old.terms < 2147483648 }
+    requires room { length terms.old.terms < MOST_TERMS }
     ensures { IfOk result (λ t. IsMade terms.old terms.new width 0 1 t (λ v. number % 2 ^ width)) }
 {
     let term = terms.add(TermNode::Const(Word::from_low_bits(width, number)))?;
@@ -34,7 +35,7 @@ pub fn constant(terms: &mut Terms, width: u8, number: u128) -> Result<SizedTerm,
 /// An operation on one term.
 pub fn one(terms: &mut Terms, op: Op1, a: SizedTerm) -> Result<SizedTerm, AllocError>
     requires has { Has terms.old a }
-    requires room { length terms.old.terms < 2147483648 }
+    requires room { length terms.old.terms < MOST_TERMS }
     ensures { IfOk result (λ t. IsMade terms.old terms.new (width1 op a.width) (gates1 op a.width) 1 t (λ v. value1 op a.width (bits v a))) }
 {
     let term = terms.add(TermNode::One(op, a.term))?;
@@ -49,7 +50,7 @@ pub fn two(terms: &mut Terms, op: Op2, a: SizedTerm, b: SizedTerm) -> Result<Siz
     requires first { Has terms.old a }
     requires second { Has terms.old b }
     requires same { b.width ≡ a.width }
-    requires room { length terms.old.terms < 2147483648 }
+    requires room { length terms.old.terms < MOST_TERMS }
     ensures { IfOk result (λ t. IsMade terms.old terms.new (width2 op a.width) (gates2 op a.width) 1 t (λ v. value2 op a.width (bits v a) (bits v b))) }
 {
     let term = terms.add(TermNode::Two(op, a.term, b.term))?;
@@ -71,7 +72,7 @@ pub fn choose(
     requires first { Has terms.old a }
     requires second { Has terms.old b }
     requires same { b.width ≡ a.width }
-    requires room { length terms.old.terms < 2147483648 }
+    requires room { length terms.old.terms < MOST_TERMS }
     ensures { IfOk result (λ t. IsMade terms.old terms.new a.width (3 * a.width) 1 t (λ v. at_zero (bits v test) (bits v b) (bits v a))) }
 {
     let term = terms.add(TermNode::Choose(test.term, a.term, b.term))?;
@@ -91,7 +92,7 @@ pub fn resize(
     requires has { Has terms.old a }
     requires some { 0 < to }
     requires within { to ≤ 128 }
-    requires room { length terms.old.terms < 2147483648 }
+    requires room { length terms.old.terms < MOST_TERMS }
     ensures { IfOk result (λ t. IsMade terms.old terms.new to 0 1 t (λ v. resized to signed a.width (bits v a))) }
 {
     let term = terms.add(TermNode::Resize(a.term, to, signed))?;
@@ -103,7 +104,7 @@ pub fn slice(terms: &mut Terms, a: SizedTerm, high: u8, low: u8) -> Result<Sized
     requires has { Has terms.old a }
     requires order { low ≤ high }
     requires within { high < a.width }
-    requires room { length terms.old.terms < 2147483648 }
+    requires room { length terms.old.terms < MOST_TERMS }
     ensures { IfOk result (λ t. IsMade terms.old terms.new (high - low + 1) 0 1 t (λ v. bits v a / 2 ^ low % 2 ^ (high - low + 1))) }
 {
     let term = terms.add(TermNode::Slice(a.term, high, low))?;

@@ -4,10 +4,11 @@
 ghost use Rattle.std.specs.Prelude.{◌≡◌, ◌+◌, ◌<◌, ◌≤◌, length, OnOk, false};
 ghost use Rattle.joint_ir.specs.WellFormed.{is_bound};
 ghost use Rattle.unrolled.specs.Elements.{terms_of, IsSet};
+ghost use Rattle.word_eqs.specs.Graph.{MOST_TERMS};
 
 use joint_ir::Slot;
 use std::alloc::AllocError;
-use word_eqs::{GuardedList, TermId, TermIds, Terms};
+use word_eqs::{GuardedList, MOST_TERMS, TermId, TermIds, Terms};
 
 /// Terms and steps.
 #[derive(Drop)]
@@ -24,16 +25,13 @@ pub struct Objects {
     pub members: Vec<TermIds>,
 }
 
-/// The number of terms, and of steps, that there may be: more of them take more memory than there is.
-pub const ROOM: u32 = 2147483648;
-
 /// Tells whether there is room for so many terms, and for a variable.
 pub fn room(net: &Unrolled, count: u32) -> Result<(), AllocError>
     requires { count ≤ 1073741824 }
-    ensures terms { OnOk result (length net.now.terms.terms + count ≤ 2147483648) }
-    ensures vars { OnOk result (length net.now.terms.vars < 2147483648) }
+    ensures terms { OnOk result (length net.now.terms.terms + count ≤ MOST_TERMS) }
+    ensures vars { OnOk result (length net.now.terms.vars < MOST_TERMS) }
 {
-    if net.terms.len() > ROOM - count || net.terms.vars() >= ROOM {
+    if net.terms.len() > MOST_TERMS - count || net.terms.vars() >= MOST_TERMS {
         return Err(AllocError);
     }
     Ok(())

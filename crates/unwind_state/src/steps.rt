@@ -10,8 +10,8 @@ use crate::state::Guard;
 use joint_ir::program::PropId;
 use sized_terms::SizedTerm;
 use std::alloc::AllocError;
-use unrolled::{ROOM, Unrolled, room};
-use word_eqs::{Act, Step, TermNode, VarId};
+use unrolled::{Unrolled, room};
+use word_eqs::{Act, MOST_TERMS, Step, TermNode, VarId};
 
 /// A term of one bit that is 1 where a path is live.
 pub fn term_of(net: &mut Unrolled, guard: Guard) -> Result<SizedTerm, AllocError>
@@ -41,7 +41,7 @@ fn push(net: &mut Unrolled, guard: Guard, act: Act) -> Result<(), AllocError>
     ensures { OnOk result (IsPushed net.old net.new guard act) }
 {
     let t = term_of(net, guard)?;
-    if net.list.len() >= ROOM {
+    if net.list.len() >= MOST_TERMS {
         return Err(AllocError);
     }
     net.list.push(Step { guard: t.term, act })?;

@@ -1,5 +1,5 @@
 -- Graphs that grow: what was there stays, and what is added fits.
-use Rattle.std.proofs.Common.{◌≡◌, ℕ, zero, suc, ◌+◌, ◌<◌, ◌≤◌, ◌^◌, List, [], ◌∷◌, ◌++◌, length, map, take, drop, get_or, Some, refl, sym, ap, ◌∙◌, subst, arith, length-append, ◌⊎◌, inl, inr}
+use Rattle.std.proofs.Common.{◌≡◌, ℕ, zero, suc, ◌+◌, ◌<◌, ◌≤◌, List, [], ◌∷◌, ◌++◌, length, map, take, drop, get_or, Some, refl, sym, ap, ◌∙◌, subst, arith, length-append, ◌⊎◌, inl, inr}
 use Rattle.std.specs.Prelude.{slice_get, All}
 use Rattle.std.proofs.lemmas.List.{get_or-take, length-take, take-append-le, take-append-drop}
 use Rattle.std.proofs.lemmas.List.Elements.{All-append}
@@ -12,7 +12,7 @@ use Rattle.bits_core.proofs.Proper.{width1_is, width2_is}
 use Rattle.word_eqs.specs.declared.term.TermNode.{TermNode}
 use Rattle.word_eqs.specs.declared.term.TermNode.TheVariants.{Const, Var, One, Two, Choose, Resize, Slice, Join}
 use Rattle.word_eqs.specs.declared.term.Term.{Term}
-use Rattle.word_eqs.specs.Graph.{Graph, width_in, width_of_var, node_width, FitsNode, IsTermAt, IsGraph, with_var, with_term, Extends, IsTyped}
+use Rattle.word_eqs.specs.Graph.{Graph, width_in, width_of_var, node_width, FitsNode, IsTermAt, IsGraph, with_var, with_term, Extends, IsTyped, MOST_TERMS}
 use Rattle.word_eqs.specs.Meaning.{Values, IsWordOf, Respects, Makes}
 
 -- lists of which one begins with the other
@@ -178,7 +178,7 @@ node_width_is g (Join a b) h f =
 
 -- a graph with a term more
 
-pub graph_with_term : (g : Graph) (node : TermNode) → IsGraph g → FitsNode g (length g.terms) node → length g.terms < 2 ^ 31 → IsGraph (with_term g node)
+pub graph_with_term : (g : Graph) (node : TermNode) → IsGraph g → FitsNode g (length g.terms) node → length g.terms < MOST_TERMS → IsGraph (with_term g node)
 graph_with_term g node h f lt =
     let x : Term = record { node = node; width = node_width g node } in
     let e = extends_with_term g node in
@@ -201,7 +201,7 @@ graph_with_term g node h f lt =
         let w : IsWidth (node_width g node) = node_width_is g node h f in
         subst (λ i. IsTermAt (with_term g node) i y) (sym p.0) (subst (IsTermAt (with_term g node) (length g.terms)) p.1 (term_kept g (with_term g node) (length g.terms) (record { node = node; width = node_width g node }) (extends_with_term g node) le (record { fits = f; width = refl; some = w.0; within = w.1 })))
 
-pub graph_with_var : (g : Graph) (w : ℕ) → IsGraph g → 0 < w → w ≤ 128 → length g.vars < 2 ^ 31 → IsGraph (with_var g w)
+pub graph_with_var : (g : Graph) (w : ℕ) → IsGraph g → 0 < w → w ≤ 128 → length g.vars < MOST_TERMS → IsGraph (with_var g w)
 graph_with_var g w h p q lt = record {
   vars = All-append IsWidth g.vars (w ∷ []) h.vars (one w (p, q));
   terms = λ k x at.

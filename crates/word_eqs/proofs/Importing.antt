@@ -12,7 +12,7 @@ use Rattle.word_eqs.specs.declared.term.VarId.{VarId}
 use Rattle.word_eqs.specs.declared.term.TermNode.{TermNode}
 use Rattle.word_eqs.specs.declared.term.TermNode.TheVariants.{Const, Var, One, Two, Choose, Resize, Slice, Join}
 use Rattle.word_eqs.specs.declared.term.Term.{Term}
-use Rattle.word_eqs.specs.Graph.{Graph, width_in, width_of_var, node_width, FitsNode, IsTermAt, IsGraph, with_term, Extends, is_made, is_no_var}
+use Rattle.word_eqs.specs.Graph.{Graph, width_in, width_of_var, node_width, FitsNode, IsTermAt, IsGraph, with_term, Extends, is_made, is_no_var, MOST_TERMS}
 use Rattle.word_eqs.specs.Import.{AreSubs, AreCopies, IsCopy, Copies, moved_node, through}
 use Rattle.word_eqs.specs.Meaning.{Values, node_word, Respects}
 use Rattle.word_eqs.specs.Gates.{gates1, gates2, node_gates, term_gates}
@@ -85,7 +85,7 @@ copy_var g from subs ids k x y h t s is =
     }
 
 -- another term is made anew
-pub copy_node : (g from : Graph) (subs ids : List ℕ) (k : ℕ) (x : Term) → IsGraph g → IsTermAt from k x → AreCopies g from ids k → is_made x.node ≡ true → length g.terms < 2 ^ 31 → IsCopy g (with_term g (moved_node ids x.node)) from subs ids x (length g.terms)
+pub copy_node : (g from : Graph) (subs ids : List ℕ) (k : ℕ) (x : Term) → IsGraph g → IsTermAt from k x → AreCopies g from ids k → is_made x.node ≡ true → length g.terms < MOST_TERMS → IsCopy g (with_term g (moved_node ids x.node)) from subs ids x (length g.terms)
 copy_node g from subs ids k x h t c m room =
     let node : TermNode = moved_node ids x.node in
     let f : FitsNode g (length g.terms) node = moved_fits g from ids k x.node m t.fits c in
@@ -218,7 +218,7 @@ count_take : (xs : List Term) (k : ℕ) → count_by is_no_var (take k xs) ≤ c
 count_take xs k = sum_by-take-le (λ x. cond (is_no_var x) 1 0) xs k
 
 -- room for the next term
-pub room_for : (old new from : Graph) (subs ids : List ℕ) (k : ℕ) (x : Term) → Imported old new from subs ids k → length old.terms + count_by is_no_var from.terms ≤ 2 ^ 31 → slice_get from.terms k ≡ Some x → length new.terms + count_by is_no_var (x ∷ []) ≤ 2 ^ 31
+pub room_for : (old new from : Graph) (subs ids : List ℕ) (k : ℕ) (x : Term) → Imported old new from subs ids k → length old.terms + count_by is_no_var from.terms ≤ MOST_TERMS → slice_get from.terms k ≡ Some x → length new.terms + count_by is_no_var (x ∷ []) ≤ MOST_TERMS
 room_for old new from subs ids k x i h at =
     let c = i.count in
     let m = count_more from.terms k x at in

@@ -1,5 +1,5 @@
 -- Terms: a graph of nodes by their places, parts before what they are parts of.
-use Rattle.std.specs.Prelude.{◌≡◌, ℕ, ◌+◌, ◌-◌, ◌<◌, ◌≤◌, ◌^◌, List, [], ◌∷◌, ◌++◌, Option, Some, length, map, slice_get, slice_index, option_map, take, All, Bool, true, false}
+use Rattle.std.specs.Prelude.{◌≡◌, ℕ, ◌+◌, ◌-◌, ◌<◌, ◌≤◌, List, [], ◌∷◌, ◌++◌, Option, Some, length, map, slice_get, slice_index, option_map, take, All, Bool, true, false}
 use Rattle.bits_core.specs.Word.{IsWidth, IsWord}
 use Rattle.bits_core.specs.Ops.{width1, width2}
 use Rattle.word_eqs.specs.declared.term.TermId.{TermId}
@@ -15,6 +15,10 @@ pub record Graph : Type 0 where
 -- the graph of these variables, by their widths, and these terms
 abbrev pub graph : List ℕ → List Term → Graph
 graph vars terms = record { vars = vars; terms = terms }
+
+-- so many variables, terms and steps there are at most: an id of 32 bits names each of them
+abbrev pub MOST_TERMS : ℕ
+MOST_TERMS = 2147483648
 
 -- the width of a term
 abbrev pub width_in : Graph → ℕ → ℕ
@@ -61,8 +65,8 @@ pub record IsTermAt (g : Graph) (k : ℕ) (x : Term) : Type 0 where
 pub record IsGraph (g : Graph) : Type 0 where
   pub vars : All IsWidth g.vars
   pub terms : (k : ℕ) (x : Term) → slice_get g.terms k ≡ Some x → IsTermAt g k x
-  pub few_vars : length g.vars ≤ 2 ^ 31
-  pub few_terms : length g.terms ≤ 2 ^ 31
+  pub few_vars : length g.vars ≤ MOST_TERMS
+  pub few_terms : length g.terms ≤ MOST_TERMS
 
 -- a graph with one variable or one term more
 abbrev pub with_var : Graph → ℕ → Graph

@@ -11,7 +11,7 @@ mod terms;
 use bits_core::Word;
 pub use list::{Act, GuardedList, Step};
 use sqlite_items::Items;
-pub use term::{Term, TermId, TermNode, VarId};
+pub use term::{MOST_TERMS, Term, TermId, TermNode, VarId};
 pub use terms::Terms;
 
 /// A list of words.

@@ -1,6 +1,7 @@
 // Lists of steps under guards.
 
 ghost use Rattle.std.specs.Prelude.{◌≡◌, [], ◌∷◌, ◌++◌, ◌^◌, ◌<◌, Some, length, slice_get, OnOk, OnErr};
+ghost use Rattle.word_eqs.specs.Graph.{MOST_TERMS};
 
 use crate::term::{TermId, VarId};
 use std::alloc::{AllocError, Global};
@@ -33,14 +34,15 @@ pub struct GuardedList {
 }
 
 impl Model for GuardedList {
-    ghost use Rattle.std.specs.Prelude.{List, length, ◌≤◌, ◌^◌};
+    ghost use Rattle.std.specs.Prelude.{List, length, ◌≤◌};
+    ghost use Rattle.word_eqs.specs.Graph.{MOST_TERMS};
     ghost use Rattle.word_eqs.specs.declared.list.Step.{Step as Stepped};
 
     ghost Value = { List Stepped };
 
     ghost view = { λ l. l.steps.items };
 
-    ghost invariant = { λ l. length l.steps.items ≤ 2 ^ 31 };
+    ghost invariant = { λ l. length l.steps.items ≤ MOST_TERMS };
 }
 
 impl GuardedList {
@@ -55,7 +57,7 @@ impl GuardedList {
 
     /// Puts a step at the end. After want of memory the list is as before.
     pub fn push(&mut self, step: Step) -> Result<(), AllocError>
-        requires { length self.old < 2 ^ 31 }
+        requires { length self.old < MOST_TERMS }
         ensures ok { OnOk result (self.new ≡ self.old ++ step ∷ []) }
         ensures err { OnErr result (self.new ≡ self.old) }
     {

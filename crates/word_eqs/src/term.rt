@@ -2,6 +2,9 @@
 
 use bits_core::{Op1, Op2, Word};
 
+/// So many terms, variables and steps there are at most; an id of 32 bits names each of them.
+pub const MOST_TERMS: u32 = 2147483648;
+
 /// The place of a term, from 0.
 #[derive(Clone, Copy, Debug, PartialEq, Eq)]
 pub struct TermId(pub u32);

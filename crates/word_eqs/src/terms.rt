@@ -2,7 +2,7 @@
 
 ghost use Rattle.std.specs.Prelude.{◌≡◌, ℕ, ◌<◌, ◌≤◌, ◌^◌, ◌+◌, [], ◌∷◌, Some, length, map, count_by, slice_get, slice_index, IfOk, OnOk, OnErr};
 ghost use Rattle.bits_core.specs.Word.{Word as Worded};
-ghost use Rattle.word_eqs.specs.Graph.{graph, width_in, width_of_var, node_at, node_width, FitsNode, IsTermAt, IsGraph, IsTyped, with_var, with_term, Extends, is_no_var, places};
+ghost use Rattle.word_eqs.specs.Graph.{graph, width_in, width_of_var, node_at, node_width, FitsNode, IsTermAt, IsGraph, IsTyped, with_var, with_term, Extends, is_no_var, places, MOST_TERMS};
 ghost use Rattle.word_eqs.specs.Import.{AreSubs, AreCopies, Copies, IsCopy, moved_node};
 ghost use Rattle.word_eqs.specs.Meaning.{Values, Respects, Makes, AreValues, look, word_at as word_of, node_word};
 ghost use Rattle.word_eqs.specs.declared.term.Term.{Term as Termed};
@@ -90,7 +90,7 @@ impl Terms {
     pub fn var(&mut self, width: u8) -> Result<VarId, AllocError>
         requires some { 0 < width }
         requires within { width ≤ 128 }
-        requires room { length self.old.vars < 2 ^ 31 }
+        requires room { length self.old.vars < MOST_TERMS }
         ensures ok { OnOk result (self.new ≡ with_var self.old width) }
         ensures id { IfOk result (λ x. x.0 ≡ length self.old.vars) }
         ensures grown { OnOk result ((v : Values) → Respects v self.new → Respects v self.old) }
@@ -105,7 +105,7 @@ impl Terms {
     /// A new term. After want of memory all is as before.
     pub fn add(&mut self, node: TermNode) -> Result<TermId, AllocError>
         requires fits { FitsNode self.old (length self.old.terms) node }
-        requires room { length self.old.terms < 2 ^ 31 }
+        requires room { length self.old.terms < MOST_TERMS }
         ensures ok { OnOk result (self.new ≡ with_term self.old node) }
         ensures id { IfOk result (λ t. t.0 ≡ length self.old.terms) }
         ensures made { IfOk result (λ t. Makes self.old self.new node t.0) }
@@ -202,7 +202,7 @@ impl Terms {
     /// copy of each term, in order. After want of memory all is as before.
     pub fn import(&mut self, from: &Terms, map: &TermIds) -> Result<TermIds, AllocError>
         requires subs { AreSubs self.old from.now (places map.now) }
-        requires room { length self.old.terms + count_by is_no_var from.now.terms ≤ 2 ^ 31 }
+        requires room { length self.old.terms + count_by is_no_var from.now.terms ≤ MOST_TERMS }
         ensures extends { OnOk result (Extends self.old self.new) }
         ensures vars { OnOk result (self.new.vars ≡ self.old.vars) }
         ensures copied { IfOk result (λ ids. Copies self.old self.new from.now (places map.now) (places ids)) }
@@ -225,7 +225,7 @@ impl Terms {
     /// The same, where what was added stays after want of memory.
     fn import_terms(&mut self, from: &Terms, map: &TermIds) -> Result<TermIds, AllocError>
         requires subs { AreSubs self.old from.now (places map.now) }
-        requires room { length self.old.terms + count_by is_no_var from.now.terms ≤ 2 ^ 31 }
+        requires room { length self.old.terms + count_by is_no_var from.now.terms ≤ MOST_TERMS }
         ensures extends { Extends self.old self.new }
         ensures vars { self.new.vars ≡ self.old.vars }
         ensures copied { IfOk result (λ ids. Copies self.old self.new from.now (places map.now) (places ids)) }
@@ -253,7 +253,7 @@ impl Terms {
         requires within { k < length from.now.terms }
         requires subs { AreSubs self.old from.now (places map.now) }
         requires copies { AreCopies self.old from.now (places ids.now) k }
-        requires room { (x : Termed) → slice_get from.now.terms k ≡ Some x → length self.old.terms + count_by is_no_var (x ∷ []) ≤ 2 ^ 31 }
+        requires room { (x : Termed) → slice_get from.now.terms k ≡ Some x → length self.old.terms + count_by is_no_var (x ∷ []) ≤ MOST_TERMS }
         ensures copy { IfOk result (λ t. (x : Termed) → slice_get from.now.terms k ≡ Some x → IsCopy self.old self.new from.now (places map.now) (places ids.now) x t.0) }
         ensures err { OnErr result (self.new ≡ self.old) }
     {

@@ -3,13 +3,14 @@ use Rattle.std.proofs.lemmas.Result.{on_ok_weaker}
 use Rattle.word_eqs.specs.Guarded.{FitsAct}
 use Rattle.bitblast.proofs.Stepped.{at_end, at_free, at_give, ends_cut, ends_prop, free_room, set_there, set_wanted, test_cut, test_prop}
 use Rattle.bitblast.proofs.blasting.Maker.step.Goals as goal
+use Rattle.gate_net.specs.Net.{MOST_NODES}
 
 pub width_of_var-requires : goal.width_of_var-requires
 width_of_var-requires c = subst (FitsAct c.args.terms.now) c.in-Free.is (c.requires.ordered.steps c.args.k c.get-step.result c.get-step.ensures).act
 
 pub leave_free-requires-clause-room : goal.leave_free-requires-clause-room
 leave_free-requires-clause-room c =
-    subst (λ w. length c.args.self.now.net + w ≤ 2147483648) (sym c.width_of_var.ensures.width) (free_room c.args.terms.now c.args.list.now c.args.k c.get-step.result c.args.self.now c.in-Free.x c.requires.at c.get-step.ensures c.requires.room c.in-Free.is)
+    subst (λ w. length c.args.self.now.net + w ≤ MOST_NODES) (sym c.width_of_var.ensures.width) (free_room c.args.terms.now c.args.list.now c.args.k c.get-step.result c.args.self.now c.in-Free.x c.requires.at c.get-step.ensures c.requires.room c.in-Free.is)
 
 pub give-requires-clause-there : goal.give-requires-clause-there
 give-requires-clause-there c = set_there c.args.terms.now c.args.list.now c.args.k c.get-step.result c.args.self.now c.in-Set.x c.in-Set.t c.requires.ordered c.requires.at c.get-step.ensures c.in-Set.is

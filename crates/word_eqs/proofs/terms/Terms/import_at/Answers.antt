@@ -1,7 +1,7 @@
-use Rattle.std.proofs.Common.{◌≡◌, ◌+◌, ◌<◌, ◌≤◌, ◌^◌, true, [], ◌∷◌, length, sym, ap, ◌∙◌, subst, arith}
+use Rattle.std.proofs.Common.{◌≡◌, ◌+◌, ◌<◌, ◌≤◌, true, [], ◌∷◌, length, sym, ap, ◌∙◌, subst, arith}
 use Rattle.std.specs.Prelude.{slice_index, count_by}
 use Rattle.word_eqs.specs.declared.term.Term.{Term}
-use Rattle.word_eqs.specs.Graph.{Graph, FitsNode, IsGraph, with_term, places, is_made, is_no_var}
+use Rattle.word_eqs.specs.Graph.{Graph, FitsNode, IsGraph, with_term, places, is_made, is_no_var, MOST_TERMS}
 use Rattle.word_eqs.specs.Import.{IsCopy, moved_node}
 use Rattle.word_eqs.proofs.Importing.{some_is, moved_fits, made, count_made, copy_var, copy_node}
 use Rattle.word_eqs.proofs.terms.Terms.import_at.Goals as goal
@@ -11,7 +11,7 @@ add-requires c =
     let x : Term = c.term_at.result in
     let m : is_made x.node ≡ true = made x.node c.in_default.not-Var in
     let one : count_by is_no_var (x ∷ []) ≡ 1 = count_made x m in
-    let room : length c.args.self.now.terms + count_by is_no_var (x ∷ []) ≤ 2 ^ 31 = c.requires.room x c.term_at.ensures.at in
+    let room : length c.args.self.now.terms + count_by is_no_var (x ∷ []) ≤ MOST_TERMS = c.requires.room x c.term_at.ensures.at in
     record {
       fits = subst (FitsNode c.args.self.now (length c.args.self.now.terms)) (sym (c.moved.ensures x c.term_at.ensures.at))
           (moved_fits c.args.self.now c.args.from.now (places c.args.ids.now) c.args.k x.node m c.term_at.ensures.fits.fits c.requires.copies);
@@ -39,8 +39,8 @@ returns-in_ok-id-in_default-clause-copy c = λ x at.
     let same : r ≡ x = some_is (sym c.term_at.ensures.at ∙ at) in
     let m : is_made r.node ≡ true = made r.node c.in_default.not-Var in
     let one : count_by is_no_var (r ∷ []) ≡ 1 = count_made r m in
-    let room : length g.terms + count_by is_no_var (r ∷ []) ≤ 2 ^ 31 = c.requires.room r c.term_at.ensures.at in
-    let lt : length g.terms < 2 ^ 31 = omega (arith, one, room) in
+    let room : length g.terms + count_by is_no_var (r ∷ []) ≤ MOST_TERMS = c.requires.room r c.term_at.ensures.at in
+    let lt : length g.terms < MOST_TERMS = omega (arith, one, room) in
     let copy : IsCopy g (with_term g (moved_node ids r.node)) c.args.from.now subs ids r (length g.terms) = copy_node g c.args.from.now subs ids c.args.k r h c.term_at.ensures.fits c.requires.copies m lt in
     let new : c.add.new.self ≡ with_term g (moved_node ids r.node) = c.in_ok-id-in_default.ensures.ok ∙ ap (with_term g) (c.moved.ensures r c.term_at.ensures.at) in
     subst (IsCopy g c.add.new.self c.args.from.now subs ids x) (sym c.in_ok-id-in_default.ensures.id)
