@@ -45,8 +45,3 @@ mod blasting;
 pub use blasting::{Blasted, blast};
 pub use nodes::WireList;
 pub use order::{blast_if_ordered, is_ordered};
-
-#[cfg(test)]
-mod list_tests;
-#[cfg(test)]
-mod tests;

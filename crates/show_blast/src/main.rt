@@ -1,10 +1,12 @@
 //! Each kind of node at some widths: the words that the edges of its net have, for words that its inputs
 //! have, against those that `Terms::eval_into` gives. A row says for how many pairs of operands they
-//! agree, and where they differ.
+//! agree, and where they differ, and for how many the node over them as constants folds to that constant.
+//! Then the roots of small lists.
 #![tactic(auto)]
 
 mod kinds;
 mod net_values;
+mod roots;
 mod source;
 
 ghost use Rattle.std.specs.Prelude.{◌<◌, ◌≤◌};
@@ -30,7 +32,7 @@ struct Made {
 }
 
 /// The parts of a node: two words of a width and a bit, of variables that are left free.
-fn parts(source: &mut Source, always: TermId, width: u8) -> Result<Parts> {
+fn free_parts(source: &mut Source, always: TermId, width: u8) -> Result<Parts> {
     let var = source.free(always, width)?;
     let second = source.free(always, width)?;
     let third = source.free(always, 1)?;
@@ -42,14 +44,28 @@ fn parts(source: &mut Source, always: TermId, width: u8) -> Result<Parts> {
     })
 }
 
-/// The net of a node of a kind over words of a width.
-fn make(alloc: Global, kind: Kind, width: u8) -> Result<Made>
+/// The parts of a node as constants: two words and a bit, and a variable that is set to the first word.
+fn constant_parts(source: &mut Source, always: TermId, words: [Word; 3]) -> Result<Parts> {
+    let left = source.term(TermNode::Const(words[0]))?;
+    Ok(Parts {
+        left,
+        right: source.term(TermNode::Const(words[1]))?,
+        bit: source.term(TermNode::Const(words[2]))?,
+        var: source.set(always, left)?,
+    })
+}
+
+/// The net of a node of a kind over words of a width: free ones, or constants.
+fn make(alloc: Global, kind: Kind, width: u8, constants: Option<[Word; 3]>) -> Result<Made>
     requires some { 0 < width }
     requires within { width ≤ 128 }
 {
     let mut source = Source::new(alloc);
     let always = source.term(TermNode::Const(Word::from_low_bits(1, 1)))?;
-    let parts = parts(&mut source, always, width)?;
+    let parts = match constants {
+        None => free_parts(&mut source, always, width)?,
+        Some(words) => constant_parts(&mut source, always, words)?,
+    };
     let node = source.term(node_of(kind, width, parts))?;
     let result = source.set(always, node)?;
     let blasted = source.net(alloc)?;
@@ -110,20 +126,41 @@ fn agrees<R: Print>(rt: &R, alloc: Global, made: &Made, words: &[Word]) -> Resul
     Ok(true)
 }
 
+/// Whether each edge of the result is a constant.
+fn is_constant(made: &Made) -> Result<bool> {
+    let wire = made.blasted.wires.get(made.result.0 as usize);
+    let edges = wire.context("no edges")?.as_slice();
+    Ok(edges.iter().all(|edge| edge.node == 0))
+}
+
+/// Whether a node over constants is the constant that it should be.
+fn folds<R: Print>(rt: &R, alloc: Global, kind: Kind, width: u8, words: [Word; 3]) -> Result<bool>
+    requires some { 0 < width }
+    requires within { width ≤ 128 }
+{
+    let made = make(alloc, kind, width, Some(words))?;
+    Ok(is_constant(&made)? && agrees(rt, alloc, &made, &words[..1])?)
+}
+
 /// The row of a kind and a width.
 fn row<R: Print>(rt: &R, alloc: Global, kind: Kind, width: u8) -> Result<()> {
     if width == 0 || width > 128 {
         bail!("no such width");
     }
     let operand = operand_width(kind, width);
-    let made = make(alloc, kind, operand)?;
+    let made = make(alloc, kind, operand, None)?;
     let mut agreed = 0u32;
+    let mut folded = 0u32;
     for (left, right) in operands(operand) {
-        if agrees(rt, alloc, &made, &free_words(operand, left, right))? {
+        let words = free_words(operand, left, right);
+        if agrees(rt, alloc, &made, &words)? {
             agreed = agreed.saturating_add(1);
         }
+        if folds(rt, alloc, kind, operand, words)? {
+            folded = folded.saturating_add(1);
+        }
     }
-    println!(rt; "{kind:?} {width}: {agreed} agree")?;
+    println!(rt; "{kind:?} {width}: {agreed} agree, {folded} fold")?;
     Ok(())
 }
 
@@ -133,5 +170,5 @@ fn main(rt: HostRuntime) -> Result<()> {
             row(&rt, rt.alloc(), kind, width)?;
         }
     }
-    Ok(())
+    roots::rows(&rt, rt.alloc())
 }

@@ -5,7 +5,7 @@ use gate_net::{Edge, Net, Node};
 use std::alloc::{AllocError, Global};
 
 /// Whether an edge is 1, by the values of the nodes.
-fn is_set(values: &[bool], edge: Edge) -> bool {
+pub fn is_set(values: &[bool], edge: Edge) -> bool {
     values.get(edge.node as usize).copied().unwrap_or(false) != edge.negated
 }
 

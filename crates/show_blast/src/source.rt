@@ -88,7 +88,8 @@ impl Source {
         Ok(t)
     }
 
-    fn step(&mut self, guard: TermId, act: Act) -> Result<()> {
+    /// A new step, the last so far.
+    pub fn step(&mut self, guard: TermId, act: Act) -> Result<()> {
         if self.list.len() > 1000 {
             bail!("too many steps");
         }
