@@ -167,6 +167,3 @@ pub fn length_law()
 pub fn exact_law()
     ensures { ExactLaw }
 {}
-
-#[cfg(test)]
-mod tests;

@@ -8,7 +8,7 @@ use Rattle.res_log.specs.Log.{derives}
 use Rattle.res_log.specs.Segments.{AreSoundBelow}
 use Rattle.res_log.proofs.Steps.{bare, some-step}
 use Rattle.res_log.proofs.Keeps.{keeps-dead}
-use Rattle.res_log.proofs.tests.delete_first.Goals as goal
+use Rattle.show_log.proofs.making.delete_first.Goals as goal
 
 first-derived : (log : List Step) (x : ClauseId) → 0 < length log → ((d : Step) → x ≡ (get_or log 0 d).derived) → derives log x.0 ≡ true
 first-derived log x l e = list_any_at (λ s. eqb s.derived.0 x.0) log 0 (bare x) l (eq-eqb _ _ (ap (λ (y : ClauseId). y.0) (sym (e (bare x)))))

@@ -3,7 +3,7 @@ use Rattle.clause_arena.specs.Clause.{Clauses}
 use Rattle.res_log.specs.Step.{Step}
 use Rattle.res_log.specs.Segments.{AreSoundBelow}
 use Rattle.res_log.proofs.Keeps.{keeps-derive}
-use Rattle.res_log.proofs.tests.derive.Goals as goal
+use Rattle.show_log.proofs.making.derive.Goals as goal
 
 pub returns-clause-sound : goal.returns-clause-sound
 returns-clause-sound c = λ n l f.

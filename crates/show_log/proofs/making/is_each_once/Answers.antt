@@ -5,7 +5,7 @@ use Rattle.std.proofs.lemmas.Map.Keys.{IsDistinct-push}
 use Rattle.clause_arena.specs.declared.Lit.{Lit}
 use Rattle.clause_arena.specs.Clause.{IsEachOnce}
 use Rattle.res_log.proofs.Keying.{lit_eq-equiv}
-use Rattle.res_log.proofs.tests.is_each_once.Goals as goal
+use Rattle.show_log.proofs.making.is_each_once.Goals as goal
 
 pub loop-i-init : goal.loop-i-init
 unfolding IsDistinct

@@ -1,6 +1,6 @@
 use Rattle.std.proofs.Common.{◌≡◌, ◌≤◌, ℕ, length, sym, subst, arith}
 use Rattle.res_log.specs.Segments.{AreSoundBelow}
-use Rattle.res_log.proofs.tests.end_after_deletion.Goals as goal
+use Rattle.show_log.proofs.end_after_deletion.Goals as goal
 
 pub next-requires-2-clause-sound : goal.next-requires-2-clause-sound
 next-requires-2-clause-sound c =

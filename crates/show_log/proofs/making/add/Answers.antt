@@ -2,7 +2,7 @@ use Rattle.std.proofs.Common.{Some, sym, subst}
 use Rattle.clause_arena.specs.Clause.{Clauses}
 use Rattle.res_log.specs.Segments.{AreSoundBelow}
 use Rattle.res_log.proofs.Keeps.{keeps-push}
-use Rattle.res_log.proofs.tests.add.Goals as goal
+use Rattle.show_log.proofs.making.add.Goals as goal
 
 pub returns : goal.returns
 returns c = λ log n l f.
