@@ -92,35 +92,3 @@ impl<W: Write + Drop> Sink for RealSink<W> {
         Ok(count)
     }
 }
-
-#[cfg(test)]
-mod tests {
-    use super::*;
-    use crate::reading::{ReadEnd, read_all};
-    use crate::writing::write_all;
-    use std::fs::OpenOptions;
-    use std::test::Fail;
-
-    #[test]
-    fn files_of_the_system_end_or_fail_or_are_too_long(rt: HostRuntime) -> Result<(), Fail> {
-        let mut files = RealFiles::new(rt.clone()?);
-        let empty = read_all(rt.alloc(), &mut files, "/dev/null")
-            .ok()
-            .ok_or("a fault")?;
-        assert!(rt; empty.is_empty());
-        let endless = read_all(rt.alloc(), &mut files, "/dev/zero").err();
-        assert_eq!(rt; endless, Some(ReadEnd::TooLong));
-        let missing = read_all(rt.alloc(), &mut files, "/dev/null/none").err();
-        assert_eq!(rt; missing, Some(ReadEnd::Failed));
-        Ok(())
-    }
-
-    #[test]
-    fn a_full_device_is_a_fault(rt: HostRuntime) -> Result<(), Fail> {
-        let full = OpenOptions::new().write(true).open(&rt, "/dev/full")?;
-        assert!(rt; write_all(&mut RealSink::new(full), b"text").is_err());
-        let null = OpenOptions::new().write(true).open(&rt, "/dev/null")?;
-        assert!(rt; write_all(&mut RealSink::new(null), b"text").is_ok());
-        Ok(())
-    }
-}
