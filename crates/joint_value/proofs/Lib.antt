@@ -4,4 +4,3 @@ pub mod Numbers
 pub mod Ranges
 pub mod Shifts
 pub mod Stores
-pub mod Worked

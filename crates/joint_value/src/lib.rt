@@ -6,8 +6,6 @@
 pub mod arith;
 mod exprs;
 mod store;
-#[cfg(test)]
-mod tests;
 
 pub use exprs::value;
 pub use store::{Rows, Store};
