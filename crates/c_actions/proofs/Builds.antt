@@ -19,8 +19,8 @@ use Rattle.c_grammar.proofs.Fit.{c_is_ll, c_is_typed}
 use Rattle.c_actions.specs.Sorts.{sorts_of}
 use Rattle.c_actions.specs.Reading.{C, kinds_of, token_before, end_of, spelling, built, actions_of, BuildsTree}
 use Rattle.c_actions.proofs.Fitting.{Makes}
-use Rattle.c_actions.proofs.Tops.{has_tree}
-use Rattle.c_actions.proofs.Turns.{signature, signature_at, fit}
+use Rattle.c_actions.proofs.TopOfSort.{has_tree}
+use Rattle.c_actions.proofs.EachFits.{signature, signature_at, fit}
 
 -- steps leave a stack of these sorts
 pub record Builds (r : List ℕ) (o : Option Values) : Type 0 where

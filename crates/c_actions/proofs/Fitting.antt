@@ -14,7 +14,7 @@ use Rattle.c_actions.specs.StatementActions.{after_call, after_assign, after_upd
 use Rattle.c_actions.specs.FileActions.{after_no_storage, after_extern, after_function_name, after_void_function, after_integer_function, after_function, after_definition, after_globals, after_const_globals, after_struct, after_mirror, after_bound, after_no_externals, after_one_external, after_add_external, after_file}
 use Rattle.c_stack.specs.Values.{Values}
 use Rattle.c_actions.specs.Sorts.{sorts_of}
-use Rattle.c_actions.proofs.Tops.{has_externals, has_external, has_place, has_declared, has_members, has_name, has_type, has_storage, has_function, has_parameters, has_block, has_declarators, has_member, has_items, has_names, has_item, has_expression, has_parameter, has_name_option, has_declarator, has_initializer, has_expressions, has_sign, has_parts, has_local, has_statement, has_simple, has_for_first, has_expression_option, has_simple_option, has_groups, has_initializer_option, has_group, has_label, has_labels, has_labelled, has_path, has_assignment_mark, has_step_mark, has_object, has_unary_mark, has_binary_mark}
+use Rattle.c_actions.proofs.TopOfSort.{has_externals, has_external, has_place, has_declared, has_members, has_name, has_type, has_storage, has_function, has_parameters, has_block, has_declarators, has_member, has_items, has_names, has_item, has_expression, has_parameter, has_name_option, has_declarator, has_initializer, has_expressions, has_sign, has_parts, has_local, has_statement, has_simple, has_for_first, has_expression_option, has_simple_option, has_groups, has_initializer_option, has_group, has_label, has_labels, has_labelled, has_path, has_assignment_mark, has_step_mark, has_object, has_unary_mark, has_binary_mark}
 
 -- what is left is a stack whose top is of this sort
 abbrev pub Makes : ℕ → List ℕ → Values → Option Values → Type 0

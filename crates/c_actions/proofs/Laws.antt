@@ -9,7 +9,7 @@ use Rattle.c_grammar.proofs.Fit.{c_is_ll}
 use Rattle.c_actions.specs.Reading.{kinds_of, built, actions_of}
 use Rattle.c_actions.specs.Laws.{TreeLaw}
 use Rattle.c_actions.proofs.Builds.{builds_tree}
-use Rattle.c_actions.proofs.Only.{one_derivation}
+use Rattle.ll_parse.proofs.Only.{one_derivation}
 
 same_tree : (a b : CTree) → Some (value.File (file_value.Tree a) ∷ []) ≡ Some (value.File (file_value.Tree b) ∷ []) → a ≡ b
 same_tree a b e = cc

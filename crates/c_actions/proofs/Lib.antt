@@ -1,6 +1,5 @@
-pub mod Tops
+pub mod TopOfSort
 pub mod Fitting
-pub mod Turns
+pub mod EachFits
 pub mod Builds
-pub mod Only
 pub mod Laws

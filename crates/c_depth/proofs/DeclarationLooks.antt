@@ -1,8 +1,11 @@
 -- The values of declarations look as the weaves of their actions say.
 use Rattle.std.proofs.Common.{◌≡◌, ℕ, List, ◌∷◌, refl}
 use Rattle.src_text.specs.declared.refusal.Place.{Place}
+use Rattle.src_text.specs.Trees.{all_trees, option_trees}
+use Rattle.node_places.proofs.Beside.{end1, end2, in_one, more_trees, more_first, both}
+use Rattle.node_places.proofs.Looks.{of_values}
 use Rattle.c_tree.specs.Starts.{declarator_start, member_declarator_start, member_start, parameter_start}
-use Rattle.c_tree.specs.Nodes.{all_trees, option_trees, expression_trees, initializer_trees, name_trees, declarator_trees, member_declarator_trees, member_trees, parameter_trees}
+use Rattle.c_tree.specs.Nodes.{expression_trees, initializer_trees, name_trees, declarator_trees, member_declarator_trees, member_trees, parameter_trees}
 use Rattle.c_stack.specs.Values.{Values}
 use Rattle.c_stack.specs.declared.values.Value.TheVariants as value
 use Rattle.c_stack.specs.declared.values.TokenValue.TheVariants as token_value
@@ -11,10 +14,8 @@ use Rattle.c_stack.specs.declared.values.DeclarationValue.TheVariants as declara
 use Rattle.c_stack.specs.declared.values.PartValue.TheVariants as part_value
 use Rattle.c_actions.specs.Sorts.{sorts_of}
 use Rattle.c_actions.specs.DeclarationActions.{after_char_type, after_short_type, after_int_type, after_long_type, after_value, after_call_value, after_no_initializer, after_some_initializer, after_plain_declarator, after_initialized, after_array_declarator, after_initialized_array, after_one_declarator, after_add_declarator, after_local, after_const_local, after_plain_item, after_array_item, after_one_item, after_add_item, after_one_name, after_add_name, after_integer_members, after_struct_members, after_one_member, after_add_member, after_no_name, after_some_name, after_parameter, after_const_parameter, after_no_parameters, after_one_parameter, after_add_parameter}
-use Rattle.c_actions.proofs.Tops.{has_declarator, has_declarators, has_declared, has_expression, has_expressions, has_initializer, has_item, has_items, has_member, has_members, has_name, has_name_option, has_names, has_parameter, has_parameters, has_place, has_sign, has_type}
-use Rattle.c_depth.proofs.Values.{name_start, looks_of}
-use Rattle.c_depth.proofs.Trees.{end1, end2, in_one, more_trees, more_first, both}
-use Rattle.c_depth.proofs.Woven.{of_values, Looks}
+use Rattle.c_actions.proofs.TopOfSort.{has_declarator, has_declarators, has_declared, has_expression, has_expressions, has_initializer, has_item, has_items, has_member, has_members, has_name, has_name_option, has_names, has_parameter, has_parameters, has_place, has_sign, has_type}
+use Rattle.c_depth.proofs.Values.{name_start, looks_of, Looks}
 
 pub look_char_type : (nothing : Place) (own : Place) (st : Values) (rest : List ℕ) → sorts_of st ≡ 23 ∷ rest → Looks nothing (of_values 1 0) own st (after_char_type st)
 look_char_type nothing own st rest e = has_sign (Looks nothing (of_values 1 0) own) _ st _ e (λ mark st1 e1. refl)

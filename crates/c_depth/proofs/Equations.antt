@@ -1,7 +1,7 @@
 -- What the starts and the trees of a part are, at the values that code makes.
 use Rattle.std.proofs.Common.{◌≡◌, List, [], ◌∷◌, Option, refl, ap, ◌∙◌}
 use Rattle.src_text.specs.declared.refusal.Place.{Place}
-use Rattle.c_tree.specs.Trees.{Trees, also, one}
+use Rattle.src_text.specs.Trees.{Trees, also, one, all_trees, option_trees}
 use Rattle.c_tree.specs.declared.declarations.TypeName.{TypeName}
 use Rattle.c_tree.specs.declared.expressions.BinaryMark.{BinaryMark}
 use Rattle.c_tree.specs.declared.expressions.Expression.{Expression}
@@ -18,7 +18,7 @@ use Rattle.c_tree.specs.declared.statements.Simple.{Simple}
 use Rattle.c_tree.specs.declared.statements.Statement.{Statement}
 use Rattle.c_tree.specs.declared.statements.Statement.TheVariants as statement
 use Rattle.c_tree.specs.Starts.{path_start, expression_start, statement_start}
-use Rattle.c_tree.specs.Nodes.{all_trees, option_trees, path_trees, expression_trees, label_trees, first_trees, simple_trees, statement_trees, item_trees, item_row, group_row, statement_row}
+use Rattle.c_tree.specs.Nodes.{path_trees, expression_trees, label_trees, first_trees, simple_trees, statement_trees, item_trees, item_row, group_row, statement_row}
 
 -- a group of a switch
 abbrev pub group_trees : Group → Trees

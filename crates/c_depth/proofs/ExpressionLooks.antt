@@ -1,6 +1,8 @@
 -- The values of expressions look as the weaves of their actions say.
 use Rattle.std.proofs.Common.{◌≡◌, ℕ, List, ◌∷◌, refl, ◌∙◌, ap, Some}
 use Rattle.src_text.specs.declared.refusal.Place.{Place}
+use Rattle.node_places.proofs.Beside.{end1, end2, end3, in_one, more_trees, more_first, both}
+use Rattle.node_places.proofs.Looks.{of_values}
 use Rattle.c_tree.specs.Starts.{expression_start}
 use Rattle.c_tree.specs.Nodes.{path_trees, expression_trees}
 use Rattle.c_depth.proofs.Equations.{element_start, parentheses_start, unary_start, cast_start, binary_start, conditional_start, element_trees, parentheses_trees, unary_trees, cast_trees, binary_trees, conditional_trees}
@@ -10,10 +12,8 @@ use Rattle.c_stack.specs.declared.values.TokenValue.TheVariants as token_value
 use Rattle.c_stack.specs.declared.values.ExpressionValue.TheVariants as expression_value
 use Rattle.c_actions.specs.Sorts.{sorts_of}
 use Rattle.c_actions.specs.ExpressionActions.{after_object, after_add_path_member, after_path, after_element, after_no_expressions, after_one_expression, after_add_expression, after_no_expression, after_some_expression, after_read, after_parentheses, after_unary, after_cast, after_binary, after_conditional}
-use Rattle.c_actions.proofs.Tops.{has_binary_mark, has_expression, has_expressions, has_name, has_object, has_path, has_place, has_type, has_unary_mark}
-use Rattle.c_depth.proofs.Values.{looks_of}
-use Rattle.c_depth.proofs.Trees.{end1, end2, end3, in_one, more_trees, more_first, both}
-use Rattle.c_depth.proofs.Woven.{of_values, Looks}
+use Rattle.c_actions.proofs.TopOfSort.{has_binary_mark, has_expression, has_expressions, has_name, has_object, has_path, has_place, has_type, has_unary_mark}
+use Rattle.c_depth.proofs.Values.{looks_of, Looks}
 
 pub look_object : (nothing : Place) (own : Place) (st : Values) (rest : List ℕ) → sorts_of st ≡ 6 ∷ rest → Looks nothing (of_values 1 0) own st (after_object st)
 look_object nothing own st rest e = has_name (Looks nothing (of_values 1 0) own) _ st _ e (λ name st1 e1. refl)

@@ -1,8 +1,11 @@
 -- The values of external declarations look as the weaves of their actions say.
 use Rattle.std.proofs.Common.{◌≡◌, ℕ, List, ◌∷◌, refl}
 use Rattle.src_text.specs.declared.refusal.Place.{Place}
+use Rattle.src_text.specs.Trees.{leaf, all_trees}
+use Rattle.node_places.proofs.Beside.{end1, end2, end3, in_one, more_trees, more_first, both, wrapped}
+use Rattle.node_places.proofs.Looks.{of_values}
 use Rattle.c_tree.specs.Starts.{result_start, external_start}
-use Rattle.c_tree.specs.Nodes.{leaf, all_trees, declarator_trees, block_trees, member_trees, parameter_trees, external_trees}
+use Rattle.c_tree.specs.Nodes.{declarator_trees, block_trees, member_trees, parameter_trees, external_trees}
 use Rattle.c_stack.specs.Values.{Values}
 use Rattle.c_stack.specs.declared.values.Value.TheVariants as value
 use Rattle.c_stack.specs.declared.values.TokenValue.TheVariants as token_value
@@ -13,10 +16,9 @@ use Rattle.c_stack.specs.declared.values.StatementValue.TheVariants as statement
 use Rattle.c_stack.specs.declared.values.FileValue.TheVariants as file_value
 use Rattle.c_actions.specs.Sorts.{sorts_of}
 use Rattle.c_actions.specs.FileActions.{after_no_storage, after_extern, after_function_name, after_void_function, after_integer_function, after_function, after_definition, after_globals, after_const_globals, after_struct, after_mirror, after_bound, after_no_externals, after_one_external, after_add_external, after_file}
-use Rattle.c_actions.proofs.Tops.{has_block, has_declarators, has_declared, has_external, has_externals, has_function, has_members, has_name, has_parameters, has_place, has_storage, has_type}
-use Rattle.c_depth.proofs.Values.{looks_of}
-use Rattle.c_depth.proofs.Trees.{end1, end2, end3, in_one, more_trees, more_first, storage_or, both, wrapped, whole}
-use Rattle.c_depth.proofs.Woven.{of_values, Looks}
+use Rattle.c_actions.proofs.TopOfSort.{has_block, has_declarators, has_declared, has_external, has_externals, has_function, has_members, has_name, has_parameters, has_place, has_storage, has_type}
+use Rattle.c_depth.proofs.Values.{looks_of, Looks}
+use Rattle.c_depth.proofs.Begins.{storage_or, whole}
 
 pub look_no_storage : (nothing : Place) (own : Place) (st : Values) (rest : List ℕ) → sorts_of st ≡ rest → Looks nothing (of_values 0 0) own st (after_no_storage st)
 look_no_storage nothing own st rest e = refl

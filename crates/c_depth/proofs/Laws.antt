@@ -1,13 +1,13 @@
 -- What the actions of a derivation tell of the depth of the tree that they build.
-use Rattle.std.proofs.Common.{◌≡◌, ℕ, ◌+◌, ◌<◌, ◌≤◌, true, List, [], ◌∷◌, length, map, Option, Some, None, refl, sym, ◌∙◌, ap, subst, arith}
+use Rattle.std.proofs.Common.{◌≡◌, ℕ, ◌+◌, ◌<◌, ◌≤◌, true, List, [], ◌∷◌, length, Option, Some, None, refl, sym, ◌∙◌, ap, subst, arith}
 use Rattle.std.proofs.lemmas.List.{length-map}
 use Rattle.src_text.specs.declared.refusal.Place.{Place}
 use Rattle.ll_parse.specs.Grammar.{Parses}
 use Rattle.ll_actions.proofs.Placed.{placed_steps}
 use Rattle.ll_actions.proofs.Typed.{typed_steps}
 use Rattle.node_depth.specs.Nodes as numbers
-use Rattle.node_depth.specs.Nodes.{Deep, FirstDeep}
-use Rattle.node_depth.specs.Weaves.{Look, woven}
+use Rattle.node_depth.specs.Nodes.{Deep}
+use Rattle.node_depth.specs.Weaves.{woven}
 use Rattle.node_count.specs.Counts.{are_few}
 use Rattle.node_count.proofs.Few.{count_law}
 use Rattle.node_count.proofs.Within.{stands_real}
@@ -19,18 +19,18 @@ use Rattle.c_grammar.specs.declared.TheConstants.{MARKS, WEAVES}
 use Rattle.c_grammar.proofs.Fit.{c_is_ll, c_is_typed, c_is_placed}
 use Rattle.c_tree.specs.declared.file.CTree.{CTree}
 use Rattle.c_tree.specs.declared.file.External.{External}
-use Rattle.c_tree.specs.Nodes.{all_trees, external_trees, trees_of}
+use Rattle.c_tree.specs.Nodes.{external_trees, trees_of}
 use Rattle.c_tree.specs.Starts.{first_start}
-use Rattle.c_tree.specs.Trees.{height, size, one, Stands}
+use Rattle.src_text.specs.Trees.{height, size, one, Stands, all_trees}
 use Rattle.c_stack.specs.declared.values.Value.TheVariants as value
 use Rattle.c_stack.specs.declared.values.FileValue.TheVariants as file_value
 use Rattle.c_actions.specs.Reading.{C, kinds_of, built, actions_of, place_of_token}
 use Rattle.c_depth.specs.Depth.{DeepAt}
 use Rattle.c_depth.specs.Laws.{IsTold, DepthLaw}
 use Rattle.c_depth.specs.Spare.{SPARE}
-use Rattle.c_depth.proofs.Looks.{PlaceLook, map_look}
-use Rattle.c_depth.proofs.Maps.{map_trees, height_map, size_map, stands_map, stands_from, one_mapped}
-use Rattle.c_depth.proofs.Told.{looks_woven}
+use Rattle.node_places.proofs.Looks.{lone_look}
+use Rattle.node_places.proofs.Maps.{map_trees, height_map, size_map, stands_map, stands_from, one_mapped}
+use Rattle.c_depth.proofs.BuiltLooks.{looks_woven}
 use Rattle.c_depth.proofs.Values.{look_of_value}
 
 c_is_few : are_few TABLE MARKS WEAVES SPARE ≡ true
@@ -68,17 +68,6 @@ module _ (text : List ℕ) (tree : CTree) where
       lone limit t (sym (height_map place_of t) ∙ ap height e) (ap (λ ys. height (one (first_start ys tree.end) (all_trees external_trees ys))) is) some r h
   tells (x ∷ xs) t is e real limit some r h =
       deep limit t (e ∙ sym (ap (λ ys. one (first_start ys tree.end) (all_trees external_trees ys)) is)) real some r h
-
--- what is mapped to one look is one look
-record Lone (f : ℕ → Place) (ls : List Look) (x : PlaceLook) : Type 0 where
-  look : Look
-  is : ls ≡ look ∷ []
-  trees : map_trees f look.trees ≡ x.trees
-
-lone_look : (f : ℕ → Place) (ls : List Look) (x : PlaceLook) → x ∷ [] ≡ map (map_look f) ls → Lone f ls x
-lone_look f [] x e = absurd (let z : x ∷ [] ≡ [] = e in cc)
-lone_look f (l ∷ []) x e = record { look = l; is = refl; trees = ap (λ (y : PlaceLook). y.trees) (let z : map_look f l ≡ x = cc in z) }
-lone_look f (l ∷ k ∷ ls) x e = absurd (let z : x ∷ [] ≡ map_look f l ∷ map_look f k ∷ map (map_look f) ls = e in cc)
 
 -- The law, and that the nodes are no more than the tokens, and one.
 pub record Told (text productions : List ℕ) (tree : CTree) : Type 0 where

@@ -3,8 +3,10 @@ use Rattle.std.proofs.Common.{◌≡◌, ℕ, List, ◌∷◌, refl, sym, ◌∙
 use Rattle.src_text.specs.declared.refusal.Place.{Place}
 use Rattle.c_tree.specs.declared.statements.BlockItem.TheVariants as block_item
 use Rattle.c_tree.specs.Starts.{simple_start}
-use Rattle.c_tree.specs.Nodes.{all_trees, option_trees, path_trees, expression_trees, initializer_trees, local_trees, simple_trees, label_trees, first_trees, statement_trees, item_trees}
-use Rattle.c_tree.specs.Trees.{none, also}
+use Rattle.c_tree.specs.Nodes.{path_trees, expression_trees, initializer_trees, local_trees, simple_trees, label_trees, first_trees, statement_trees, item_trees}
+use Rattle.src_text.specs.Trees.{none, also, all_trees, option_trees}
+use Rattle.node_places.proofs.Beside.{also_assoc, end1, end2, end3, end4, in_one, more_trees, more_first, both}
+use Rattle.node_places.proofs.Looks.{of_values}
 use Rattle.c_depth.proofs.Equations.{group_trees, compound_trees, if_trees, if_else_trees, while_trees, do_trees, for_trees, switch_trees, if_start, if_else_start, while_start, do_start, for_start}
 use Rattle.c_stack.specs.Values.{Values}
 use Rattle.c_stack.specs.declared.values.Value.TheVariants as value
@@ -15,10 +17,8 @@ use Rattle.c_stack.specs.declared.values.StatementValue.TheVariants as statement
 use Rattle.c_stack.specs.declared.values.SwitchValue.TheVariants as switch_value
 use Rattle.c_actions.specs.Sorts.{sorts_of}
 use Rattle.c_actions.specs.StatementActions.{after_call, after_assign, after_update, after_step_after, after_step_before, after_no_simple, after_some_simple, after_for_nothing, after_for_local, after_for_simple, after_case, after_default, after_first_label, after_add_label, after_labelled, after_add_to_group, after_group, after_no_groups, after_add_group, after_no_items, after_add_local, after_add_statement, after_block, after_compound, after_empty, after_simple, after_if_alone, after_if_else, after_while, after_do, after_for, after_switch, after_break, after_continue, after_return, after_assert, after_cprover_assert, after_cprover_assume}
-use Rattle.c_actions.proofs.Tops.{has_assignment_mark, has_block, has_expression, has_expression_option, has_expressions, has_for_first, has_group, has_groups, has_initializer, has_initializer_option, has_label, has_labelled, has_labels, has_local, has_name, has_parts, has_path, has_place, has_simple, has_simple_option, has_statement, has_step_mark}
-use Rattle.c_depth.proofs.Values.{item_start, group_start, parts_of, looks_of}
-use Rattle.c_depth.proofs.Trees.{also_assoc, end1, end2, end3, end4, in_one, more_trees, more_first, both}
-use Rattle.c_depth.proofs.Woven.{of_values, Looks}
+use Rattle.c_actions.proofs.TopOfSort.{has_assignment_mark, has_block, has_expression, has_expression_option, has_expressions, has_for_first, has_group, has_groups, has_initializer, has_initializer_option, has_label, has_labelled, has_labels, has_local, has_name, has_parts, has_path, has_place, has_simple, has_simple_option, has_statement, has_step_mark}
+use Rattle.c_depth.proofs.Values.{item_start, group_start, parts_of, looks_of, Looks}
 
 pub look_call : (nothing : Place) (own : Place) (st : Values) (rest : List ℕ) → sorts_of st ≡ 22 ∷ 6 ∷ rest → Looks nothing (of_values 2 1) own st (after_call st)
 look_call nothing own st rest e = has_expressions (Looks nothing (of_values 2 1) own) _ st _ e (λ arguments st1 e1. has_name (λ s o. Looks nothing (of_values 2 1) own (value.Expression (expression_value.Expressions arguments) ∷ s) o) _ st1 _ e1 (λ name st2 e2. both (looks_of nothing st2) refl (in_one name.place (end1 (all_trees expression_trees arguments)))))

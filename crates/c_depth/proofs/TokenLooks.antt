@@ -1,6 +1,7 @@
 -- The values that actions make of a token look as their weaves say.
 use Rattle.std.proofs.Common.{◌≡◌, ℕ, List, refl}
 use Rattle.src_text.specs.declared.refusal.Place.{Place}
+use Rattle.node_places.proofs.Looks.{of_token}
 use Rattle.c_tree.specs.declared.expressions.AssignmentOperator.{AssignmentOperator}
 use Rattle.c_tree.specs.declared.expressions.BinaryOperator.{BinaryOperator}
 use Rattle.c_tree.specs.declared.declarations.IntegerType.{IntegerType}
@@ -10,7 +11,7 @@ use Rattle.c_tree.specs.declared.expressions.UnaryOperator.{UnaryOperator}
 use Rattle.c_stack.specs.Values.{Values}
 use Rattle.c_actions.specs.Sorts.{sorts_of}
 use Rattle.c_actions.specs.TokenActions.{after_place, after_name, after_declared, after_integer, after_character, after_true, after_false, after_static, after_word_type, after_sign, after_unary_mark, after_binary_mark, after_assignment_mark, after_step_mark}
-use Rattle.c_depth.proofs.Woven.{of_token, Looks}
+use Rattle.c_depth.proofs.Values.{Looks}
 
 pub look_place : (nothing : Place) (place : Place) (st : Values) (rest : List ℕ) → sorts_of st ≡ rest → Looks nothing (of_token 0) place st (after_place place st)
 look_place nothing place st rest e = refl

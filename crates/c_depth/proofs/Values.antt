@@ -1,5 +1,5 @@
 -- How a value looks: the place of its first token, and its nodes.
-use Rattle.std.proofs.Common.{List, [], ◌∷◌, map, option_map}
+use Rattle.std.proofs.Common.{List, map, option_map}
 use Rattle.std.specs.declared.option.Option.{Option}
 use Rattle.std.specs.declared.option.Option.TheVariants.{None, Some}
 use Rattle.src_text.specs.declared.refusal.Place.{Place}
@@ -12,8 +12,8 @@ use Rattle.c_tree.specs.declared.statements.ForFirst.{ForFirst}
 use Rattle.c_tree.specs.declared.statements.ForFirst.TheVariants as for_first
 use Rattle.c_tree.specs.declared.statements.Group.{Group}
 use Rattle.c_tree.specs.Starts.{object_start, path_start, expression_start, initializer_start, declarator_start, local_start, member_declarator_start, member_start, parameter_start, result_start, simple_start, label_start, statement_start, external_start, first_start}
-use Rattle.c_tree.specs.Nodes.{leaf, all_trees, option_trees, path_trees, expression_trees, initializer_trees, name_trees, declarator_trees, local_trees, simple_trees, label_trees, first_trees, statement_trees, item_trees, block_trees, member_declarator_trees, member_trees, parameter_trees, external_trees}
-use Rattle.c_tree.specs.Trees.{Trees, none, also, one}
+use Rattle.c_tree.specs.Nodes.{path_trees, expression_trees, initializer_trees, name_trees, declarator_trees, local_trees, simple_trees, label_trees, first_trees, statement_trees, item_trees, block_trees, member_declarator_trees, member_trees, parameter_trees, external_trees}
+use Rattle.src_text.specs.Trees.{Trees, none, also, one, leaf, all_trees, option_trees}
 use Rattle.c_depth.proofs.Equations.{group_trees}
 use Rattle.c_stack.specs.Values.{Values}
 use Rattle.c_stack.specs.declared.values.Value.{Value}
@@ -25,11 +25,7 @@ use Rattle.c_stack.specs.declared.values.PartValue.TheVariants as part_value
 use Rattle.c_stack.specs.declared.values.StatementValue.TheVariants as statement_value
 use Rattle.c_stack.specs.declared.values.SwitchValue.TheVariants as switch_value
 use Rattle.c_stack.specs.declared.values.FileValue.TheVariants as file_value
-use Rattle.c_depth.proofs.Looks.{PlaceLook}
-
-abbrev pub first_in : {A : Type 0} → (A → Place) → List A → Option Place
-first_in start [] = None
-first_in start (x ∷ xs) = Some (start x)
+use Rattle.node_places.proofs.Looks.{PlaceLook}
 
 abbrev pub storage_first : Storage → Option Place
 storage_first storage.Unspecified = None
@@ -151,3 +147,8 @@ look_of_value nothing v = record { first = first_of_value v; trees = trees_of_va
 -- The looks of a stack. A file without tokens begins at `nothing`.
 abbrev pub looks_of : (nothing : Place) → Values → List PlaceLook
 looks_of nothing st = map (look_of_value nothing) st
+
+-- what is left is a stack that looks as the weave makes it, where the last token is at `place`
+abbrev pub Looks : (nothing : Place) → Weave → (place : Place) → Values → Option Values → Type 0
+Looks nothing w place st None = ⊥
+Looks nothing w place st (Some new) = looks_of nothing new ≡ placed_weaves nothing w place (looks_of nothing st)

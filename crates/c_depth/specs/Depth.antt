@@ -5,7 +5,7 @@ use Rattle.src_text.specs.declared.refusal.Place.{Place}
 use Rattle.c_tokens.specs.Directives.{c_tokens}
 use Rattle.c_tree.specs.declared.file.CTree.{CTree}
 use Rattle.c_tree.specs.Nodes.{trees_of}
-use Rattle.c_tree.specs.Trees.{Stands, height}
+use Rattle.src_text.specs.Trees.{Stands, height}
 use Rattle.c_actions.specs.Reading.{place_of_token}
 
 -- The place is that of token i of the text, or of a later one.

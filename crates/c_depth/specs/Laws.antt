@@ -7,7 +7,7 @@ use Rattle.c_tokens.specs.Directives.{c_tokens}
 use Rattle.c_grammar.specs.declared.TheConstants.{WEAVES}
 use Rattle.c_tree.specs.declared.file.CTree.{CTree}
 use Rattle.c_tree.specs.Nodes.{trees_of}
-use Rattle.c_tree.specs.Trees.{size}
+use Rattle.src_text.specs.Trees.{size}
 use Rattle.c_stack.specs.declared.values.Value.TheVariants as value
 use Rattle.c_stack.specs.declared.values.FileValue.TheVariants as file_value
 use Rattle.c_actions.specs.Reading.{C, kinds_of, built, actions_of, IsCSource}

@@ -11,7 +11,7 @@ use Rattle.c_tokens.specs.Directives.{c_tokens}
 use Rattle.c_tokens.specs.declared.directives.CToken.{CToken}
 use Rattle.c_tree.specs.declared.file.CTree.{CTree}
 use Rattle.c_tree.specs.Nodes.{trees_of}
-use Rattle.c_tree.specs.Trees.{height}
+use Rattle.src_text.specs.Trees.{height}
 use Rattle.c_actions.specs.Reading.{C, kinds_of, actions_of, place_of_token, IsCSource}
 use Rattle.c_depth.specs.Depth.{IsDeepAt}
 use Rattle.c_parse.specs.declared.read.ParseEnd.{ParseEnd}

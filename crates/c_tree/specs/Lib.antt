@@ -1,3 +1,2 @@
 pub mod Starts
-pub mod Trees
 pub mod Nodes

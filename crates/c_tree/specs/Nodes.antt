@@ -1,8 +1,6 @@
 -- The nodes of a tree: the file, each external declaration, statement and group, each declared name with what belongs to
 -- it, and in expressions each operator, cast, call, literal, path and pair of parentheses. The parentheses of a
 -- statement's head, the `=` and the operator of an assignment and a label are no nodes.
-use Rattle.std.specs.Prelude.{List, [], ◌∷◌, Option, Some, None}
-use Rattle.src_text.specs.declared.refusal.Place.{Place}
 use Rattle.c_tree.specs.declared.names.Identifier.{Identifier}
 use Rattle.c_tree.specs.declared.declarations.Declarator.{Declarator}
 use Rattle.c_tree.specs.declared.declarations.Declarator.TheVariants as declarator
@@ -36,11 +34,7 @@ use Rattle.c_tree.specs.declared.statements.Simple.TheVariants as simple
 use Rattle.c_tree.specs.declared.statements.Statement.{Statement}
 use Rattle.c_tree.specs.declared.statements.Statement as statement
 use Rattle.c_tree.specs.Starts.{expression_start, simple_start, external_start, tree_start}
-use Rattle.c_tree.specs.Trees.{Trees, none, also, one}
-
--- a literal, or a declared name without more
-abbrev pub leaf : Place → Trees
-leaf p = one p none
+use Rattle.src_text.specs.Trees.{Trees, none, also, one, leaf, all_trees, option_trees}
 
 -- the nodes of a path and of an expression
 abbrev mutual
@@ -61,16 +55,6 @@ abbrev mutual
   expression_trees (expression.Cast' p ty _ (expression.more_of-Expression e _)) = one p (expression_trees e)
   expression_trees (expression.Binary' _ (expression.more_of-Expression left _) mark _ (expression.more_of-Expression right _)) = one (expression_start left) (also (expression_trees left) (expression_trees right))
   expression_trees (expression.Conditional' _ (expression.more_of-Expression condition _) p _ (expression.more_of-Expression first _) _ (expression.more_of-Expression second _)) = one (expression_start condition) (also (expression_trees condition) (also (expression_trees first) (expression_trees second)))
-
--- the trees of a list, side by side
-abbrev pub all_trees : {A : Type 0} → (A → Trees) → List A → Trees
-all_trees trees [] = none
-all_trees trees (x ∷ xs) = also (trees x) (all_trees trees xs)
-
--- the nodes of a part, if there is one
-abbrev pub option_trees : {A : Type 0} → (A → Trees) → Option A → Trees
-option_trees trees None = none
-option_trees trees (Some x) = trees x
 
 -- a call, and its arguments
 abbrev pub call_trees : Call → Trees

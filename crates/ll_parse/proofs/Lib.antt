@@ -3,6 +3,7 @@ pub mod Alive
 pub mod Linear
 pub mod Steps
 pub mod Ends
+pub mod Only
 pub mod Check
 pub mod Fits
 pub mod Use

@@ -1,7 +1,7 @@
 -- No two answers of a reader hold of one text.
 use Rattle.std.proofs.Common.{◌≡◌, ℕ, ◌<◌, ◌≤◌, subst, arith}
 use Rattle.c_tree.specs.Nodes.{trees_of}
-use Rattle.c_tree.specs.Trees.{height as c_height}
+use Rattle.src_text.specs.Trees.{height as c_height}
 use Rattle.v_tree.specs.Nodes.{height as v_height}
 use Rattle.reader_laws.specs.Answers.{OneVerilogAnswer, OneCAnswer}
 

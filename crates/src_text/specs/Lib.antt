@@ -1,3 +1,4 @@
 pub mod Kind
 pub mod Place
 pub mod Digits
+pub mod Trees

@@ -10,7 +10,7 @@ use Rattle.v_actions.specs.Tokens.{Lexemes}
 use Rattle.v_stack.specs.Values.{Values}
 use Rattle.v_actions.specs.Sorts.{sorts_of}
 use Rattle.v_actions.specs.Reading.{V, kinds_of, tokens_in, lexemes, actions_of, BuildsTree}
-use Rattle.v_actions.proofs.Tops.{one_tree}
+use Rattle.v_actions.proofs.TopOfSort.{one_tree}
 use Rattle.v_actions.proofs.Fitting.{Makes, signature, signature_at, fit}
 use Rattle.v_grammar.specs.Sorts.{SIGNATURES}
 use Rattle.v_grammar.proofs.Fit.{verilog_is_typed}

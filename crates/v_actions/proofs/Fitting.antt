@@ -28,7 +28,7 @@ use Rattle.v_actions.specs.Stmt.{stmt_act}
 use Rattle.v_actions.specs.Tokens.{Lexemes, token_value}
 use Rattle.v_stack.specs.Values.{Values}
 use Rattle.v_grammar.specs.Sorts.{SIGNATURES}
-use Rattle.v_actions.proofs.Tops.{has_assignment_kind, has_based, has_binary_operator, has_case_item, has_case_items, has_connections, has_decimal, has_declarator, has_declarators, has_declared, has_declared_names, has_direction, has_event, has_expr, has_expr_option, has_exprs, has_groups, has_header, has_instance, has_instances, has_item, has_items, has_label, has_module, has_modules, has_name, has_named, has_named_values, has_names, has_net_assignment, has_net_assignments, has_net_kind, has_ordered, has_ordered_values, has_overrides, has_parameter, has_parameter_range, has_parameters, has_place, has_ports, has_range, has_range_option, has_register, has_registers, has_selection, has_sign, has_stmt, has_stmts, has_target, has_targets, has_unary_operator}
+use Rattle.v_actions.proofs.TopOfSort.{has_assignment_kind, has_based, has_binary_operator, has_case_item, has_case_items, has_connections, has_decimal, has_declarator, has_declarators, has_declared, has_declared_names, has_direction, has_event, has_expr, has_expr_option, has_exprs, has_groups, has_header, has_instance, has_instances, has_item, has_items, has_label, has_module, has_modules, has_name, has_named, has_named_values, has_names, has_net_assignment, has_net_assignments, has_net_kind, has_ordered, has_ordered_values, has_overrides, has_parameter, has_parameter_range, has_parameters, has_place, has_ports, has_range, has_range_option, has_register, has_registers, has_selection, has_sign, has_stmt, has_stmts, has_target, has_targets, has_unary_operator}
 
 -- what is left is a stack whose top is of this sort
 abbrev pub Makes : ℕ → List ℕ → Values → Option Values → Type 0

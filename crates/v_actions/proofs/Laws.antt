@@ -9,7 +9,7 @@ use Rattle.v_actions.specs.Acts.{built}
 use Rattle.v_actions.specs.Reading.{kinds_of, tokens_in, lexemes, actions_of}
 use Rattle.v_actions.specs.Laws.{TreeLaw}
 use Rattle.v_actions.proofs.Builds.{builds_tree}
-use Rattle.v_actions.proofs.Only.{one_derivation}
+use Rattle.ll_parse.proofs.Only.{one_derivation}
 
 same_tree : (a b : VTree) → Some (Value.Module (ModuleValue.Source a) ∷ []) ≡ Some (Value.Module (ModuleValue.Source b) ∷ []) → a ≡ b
 same_tree a b e = cc

@@ -1,5 +1,4 @@
-pub mod Tops
+pub mod TopOfSort
 pub mod Fitting
 pub mod Builds
-pub mod Only
 pub mod Laws

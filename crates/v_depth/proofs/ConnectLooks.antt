@@ -1,7 +1,10 @@
 -- The values of connections, continuous assignments and events look as the weaves of their actions say.
 use Rattle.std.proofs.Common.{◌≡◌, ℕ, List, ◌∷◌, refl}
 use Rattle.src_text.specs.declared.refusal.Place.{Place}
-use Rattle.v_tree.specs.Nodes.{all_trees, option_trees, expr_trees, target_trees, net_assignment_trees, ordered_trees, named_trees, connections_trees, instance_trees}
+use Rattle.src_text.specs.Trees.{all_trees, option_trees}
+use Rattle.node_places.proofs.Beside.{end1, end2, in_one, more_trees, more_first, both}
+use Rattle.node_places.proofs.Looks.{first_in, of_values}
+use Rattle.v_tree.specs.Nodes.{expr_trees, target_trees, net_assignment_trees, ordered_trees, named_trees, connections_trees, instance_trees}
 use Rattle.v_tree.specs.Starts.{expr_start}
 use Rattle.v_stack.specs.Values.{Values}
 use Rattle.v_stack.specs.declared.values.Value.TheVariants as Value
@@ -12,10 +15,9 @@ use Rattle.v_stack.specs.declared.values.PartValue.TheVariants as PartValue
 use Rattle.v_actions.specs.declared.actions.ConnectAction.TheVariants as connect_action
 use Rattle.v_actions.specs.Connect.{connect_act}
 use Rattle.v_actions.specs.Sorts.{sorts_of}
-use Rattle.v_actions.proofs.Tops.{has_connections, has_expr, has_expr_option, has_instance, has_instances, has_name, has_named, has_named_values, has_names, has_net_assignment, has_net_assignments, has_ordered, has_ordered_values, has_place, has_target}
-use Rattle.v_depth.proofs.Values.{first_in, name_start, named_start, connections_first, instance_start, net_assignment_start, looks_of}
-use Rattle.v_depth.proofs.Trees.{end1, end2, in_one, more_trees, more_first, or_none, both}
-use Rattle.v_depth.proofs.Woven.{of_values, Looks}
+use Rattle.v_actions.proofs.TopOfSort.{has_connections, has_expr, has_expr_option, has_instance, has_instances, has_name, has_named, has_named_values, has_names, has_net_assignment, has_net_assignments, has_ordered, has_ordered_values, has_place, has_target}
+use Rattle.v_depth.proofs.Values.{name_start, named_start, connections_first, instance_start, net_assignment_start, looks_of, Looks}
+use Rattle.v_depth.proofs.Begins.{or_none}
 
 pub look_ordered : (nothing own : Place) (st : Values) (rest : List ℕ) → sorts_of st ≡ 9 ∷ rest → Looks nothing (of_values 1 1) own st (connect_act connect_action.Ordered st)
 look_ordered nothing own st rest e = has_expr (Looks nothing (of_values 1 1) own) _ st _ e (λ value st1 e1. both (looks_of nothing st1) refl (in_one (expr_start value) (end1 (expr_trees value))))

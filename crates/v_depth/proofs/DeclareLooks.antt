@@ -1,7 +1,10 @@
 -- The values of what declarations are made of look as the weaves of their actions say.
 use Rattle.std.proofs.Common.{◌≡◌, ℕ, List, ◌∷◌, refl}
 use Rattle.src_text.specs.declared.refusal.Place.{Place}
-use Rattle.v_tree.specs.Nodes.{option_trees, expr_trees, range_trees, declared_trees, declarator_trees, parameter_trees, register_trees}
+use Rattle.src_text.specs.Trees.{option_trees}
+use Rattle.node_places.proofs.Beside.{end1, end2, in_one, more_trees, more_first, both}
+use Rattle.node_places.proofs.Looks.{of_values}
+use Rattle.v_tree.specs.Nodes.{expr_trees, range_trees, declared_trees, declarator_trees, parameter_trees, register_trees}
 use Rattle.v_stack.specs.Values.{Values}
 use Rattle.v_stack.specs.declared.values.Value.TheVariants as Value
 use Rattle.v_stack.specs.declared.values.TokenValue.TheVariants as TokenValue
@@ -11,10 +14,8 @@ use Rattle.v_stack.specs.declared.values.NamesValue.TheVariants as NamesValue
 use Rattle.v_actions.specs.declared.actions.DeclareAction.TheVariants as declare_action
 use Rattle.v_actions.specs.Declare.{declare_act}
 use Rattle.v_actions.specs.Sorts.{sorts_of}
-use Rattle.v_actions.proofs.Tops.{has_declarator, has_declarators, has_declared, has_declared_names, has_expr, has_expr_option, has_name, has_names, has_parameter, has_parameters, has_place, has_range, has_register, has_registers}
-use Rattle.v_depth.proofs.Values.{name_start, parameter_start, declarator_start, register_start, looks_of}
-use Rattle.v_depth.proofs.Trees.{end1, end2, in_one, more_trees, more_first, both}
-use Rattle.v_depth.proofs.Woven.{of_values, Looks}
+use Rattle.v_actions.proofs.TopOfSort.{has_declarator, has_declarators, has_declared, has_declared_names, has_expr, has_expr_option, has_name, has_names, has_parameter, has_parameters, has_place, has_range, has_register, has_registers}
+use Rattle.v_depth.proofs.Values.{name_start, parameter_start, declarator_start, register_start, looks_of, Looks}
 
 pub look_range : (nothing own : Place) (st : Values) (rest : List ℕ) → sorts_of st ≡ 9 ∷ 9 ∷ 1 ∷ rest → Looks nothing (of_values 3 0) own st (declare_act declare_action.Range st)
 look_range nothing own st rest e = has_expr (Looks nothing (of_values 3 0) own) _ st _ e (λ low st1 e1. has_expr (λ s o. Looks nothing (of_values 3 0) own (Value.Expr (ExprValue.Expr low) ∷ s) o) _ st1 _ e1 (λ high st2 e2. has_place (λ s o. Looks nothing (of_values 3 0) own (Value.Expr (ExprValue.Expr low) ∷ Value.Expr (ExprValue.Expr high) ∷ s) o) _ st2 _ e2 (λ place st3 e3. both (looks_of nothing st3) refl (end2 (expr_trees high) (expr_trees low)))))

@@ -1,7 +1,10 @@
 -- The values of expressions look as the weaves of their actions say.
 use Rattle.std.proofs.Common.{◌≡◌, ℕ, List, ◌∷◌, refl, ◌∙◌, ap, Some}
 use Rattle.src_text.specs.declared.refusal.Place.{Place}
-use Rattle.v_tree.specs.Nodes.{all_trees, expr_trees, selection_trees}
+use Rattle.src_text.specs.Trees.{all_trees}
+use Rattle.node_places.proofs.Beside.{end1, end2, end3, in_one, more_trees, more_first, both}
+use Rattle.node_places.proofs.Looks.{of_values}
+use Rattle.v_tree.specs.Nodes.{expr_trees, selection_trees}
 use Rattle.v_tree.specs.Starts.{expr_start}
 use Rattle.v_tree.proofs.Equations.{binary_start, conditional_start, select_trees, unary_trees, binary_trees, conditional_trees, parentheses_trees, signed_trees, unsigned_trees, concatenation_trees, replication_trees, index_trees, up_trees, down_trees}
 use Rattle.v_tree.proofs.Equations as equations
@@ -12,10 +15,9 @@ use Rattle.v_stack.specs.declared.values.ExprValue.TheVariants as ExprValue
 use Rattle.v_actions.specs.declared.actions.ExprAction.TheVariants as expr_action
 use Rattle.v_actions.specs.Expr.{expr_act}
 use Rattle.v_actions.specs.Sorts.{sorts_of}
-use Rattle.v_actions.proofs.Tops.{has_based, has_binary_operator, has_decimal, has_expr, has_exprs, has_name, has_place, has_selection, has_unary_operator}
-use Rattle.v_depth.proofs.Values.{root_first, looks_of}
-use Rattle.v_depth.proofs.Trees.{end1, end2, end3, in_one, more_trees, more_first, expr_root, also_root, both}
-use Rattle.v_depth.proofs.Woven.{of_values, Looks}
+use Rattle.v_actions.proofs.TopOfSort.{has_based, has_binary_operator, has_decimal, has_expr, has_exprs, has_name, has_place, has_selection, has_unary_operator}
+use Rattle.v_depth.proofs.Values.{root_first, looks_of, Looks}
+use Rattle.v_depth.proofs.Begins.{expr_root, also_root}
 
 pub look_decimal_literal : (nothing own : Place) (st : Values) (rest : List ℕ) → sorts_of st ≡ 4 ∷ rest → Looks nothing (of_values 1 1) own st (expr_act expr_action.DecimalLiteral st)
 look_decimal_literal nothing own st rest e = has_decimal (Looks nothing (of_values 1 1) own) _ st _ e (λ number st1 e1. refl)

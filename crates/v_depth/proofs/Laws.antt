@@ -1,5 +1,5 @@
 -- What the actions of a derivation tell of the depth of the tree that they build.
-use Rattle.std.proofs.Common.{◌≡◌, ℕ, ◌+◌, ◌<◌, ◌≤◌, true, List, [], ◌∷◌, length, map, Option, Some, None, refl, sym, ap, subst, arith}
+use Rattle.std.proofs.Common.{◌≡◌, ℕ, ◌+◌, ◌<◌, ◌≤◌, true, List, [], ◌∷◌, length, Option, Some, None, refl, sym, ap, subst, arith}
 use Rattle.std.proofs.lemmas.List.{length-map}
 use Rattle.src_text.specs.declared.refusal.Place.{Place}
 use Rattle.text_scan.specs.declared.scanner.Token.{Token}
@@ -7,7 +7,7 @@ use Rattle.ll_parse.specs.Grammar.{Parses}
 use Rattle.ll_actions.proofs.Placed.{placed_steps}
 use Rattle.node_depth.specs.Nodes as numbers
 use Rattle.node_depth.specs.Nodes.{Deep}
-use Rattle.node_depth.specs.Weaves.{Look, woven}
+use Rattle.node_depth.specs.Weaves.{woven}
 use Rattle.node_count.specs.Counts.{are_few}
 use Rattle.node_count.proofs.Few.{count_law}
 use Rattle.node_count.proofs.Within.{stands_real}
@@ -15,19 +15,19 @@ use Rattle.v_grammar.specs.Verilog.{VERILOG}
 use Rattle.v_grammar.specs.declared.TheConstants.{MARKS, WEAVES}
 use Rattle.v_grammar.proofs.Fit.{verilog_is_ll, verilog_is_typed}
 use Rattle.v_tree.specs.declared.item.VTree.{VTree}
-use Rattle.v_tree.specs.Nodes.{all_trees, module_trees, trees_of}
-use Rattle.v_tree.specs.Trees.{Trees, none, height, one}
+use Rattle.v_tree.specs.Nodes.{module_trees, trees_of}
+use Rattle.src_text.specs.Trees.{Trees, none, height, one, all_trees, Stands, here, inside, after, size}
 use Rattle.v_stack.specs.declared.values.Value.TheVariants as Value
 use Rattle.v_stack.specs.declared.values.ModuleValue.TheVariants as ModuleValue
 use Rattle.v_actions.specs.Acts.{built}
 use Rattle.v_actions.specs.Reading.{V, kinds_of, tokens_in, lexemes, actions_of}
 use Rattle.v_depth.specs.After.{AFTER, SPOTS}
-use Rattle.v_depth.specs.Depth.{Stands, here, inside, after, size, place_of_token, DeepAt}
+use Rattle.v_depth.specs.Depth.{place_of_token, DeepAt}
 use Rattle.v_depth.specs.Laws.{IsTold, DepthLaw}
 use Rattle.v_depth.specs.Spare.{SPARE}
-use Rattle.v_depth.proofs.Looks.{PlaceLook, map_look}
-use Rattle.v_depth.proofs.Maps.{map_trees, height_map, size_map, stands_map, stands_from, one_mapped}
-use Rattle.v_depth.proofs.Told.{verilog_is_placed, looks_woven}
+use Rattle.node_places.proofs.Looks.{lone_look}
+use Rattle.node_places.proofs.Maps.{map_trees, height_map, size_map, stands_map, stands_from, one_mapped}
+use Rattle.v_depth.proofs.BuiltLooks.{verilog_is_placed, looks_woven}
 use Rattle.v_depth.proofs.Values.{look_of_value, first_start}
 
 verilog_is_few : are_few VERILOG MARKS WEAVES SPARE ≡ true
@@ -70,17 +70,6 @@ module _ (text : List ℕ) (tree : VTree) where
             let w = stands_from place_of t 1 (limit + 1) q (subst (λ x. Stands 1 x (limit + 1) q) (sym e) (moved 1 (limit + 1) start q p modules (omega (arith, some)) s)) in
             record { token = w.number; from = h.least w.number w.stands; within = real limit w.number some h.high w.stands; is = w.is });
       }
-
--- what is mapped to one look is one look
-record Lone (f : ℕ → Place) (ls : List Look) (x : PlaceLook) : Type 0 where
-  look : Look
-  is : ls ≡ look ∷ []
-  trees : map_trees f look.trees ≡ x.trees
-
-lone_look : (f : ℕ → Place) (ls : List Look) (x : PlaceLook) → x ∷ [] ≡ map (map_look f) ls → Lone f ls x
-lone_look f [] x e = absurd (let z : x ∷ [] ≡ [] = e in cc)
-lone_look f (l ∷ []) x e = record { look = l; is = refl; trees = ap (λ (y : PlaceLook). y.trees) (let z : map_look f l ≡ x = cc in z) }
-lone_look f (l ∷ k ∷ ls) x e = absurd (let z : x ∷ [] ≡ map_look f l ∷ map_look f k ∷ map (map_look f) ls = e in cc)
 
 -- The law, and that the nodes are no more than the tokens, and one.
 pub record Told (text productions : List ℕ) (tree : VTree) : Type 0 where

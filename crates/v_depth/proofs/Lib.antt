@@ -1,14 +1,11 @@
-pub mod Maps
-pub mod Looks
 pub mod Values
-pub mod Trees
-pub mod Woven
+pub mod Begins
 pub mod ExprLooks
 pub mod StmtLooks
 pub mod DeclareLooks
 pub mod ConnectLooks
 pub mod ModuleLooks
-pub mod Turns
-pub mod Told
+pub mod ActionLooks
+pub mod BuiltLooks
 pub mod Laws
 pub mod Sizes

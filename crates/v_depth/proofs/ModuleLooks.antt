@@ -1,7 +1,10 @@
 -- The values of items, headers and modules look as the weaves of their actions say.
 use Rattle.std.proofs.Common.{◌≡◌, ℕ, List, ◌∷◌, refl}
 use Rattle.src_text.specs.declared.refusal.Place.{Place}
-use Rattle.v_tree.specs.Nodes.{all_trees, option_trees, stmt_trees, range_trees, parameter_range_trees, declared_trees, declarator_trees, parameter_trees, parameters_trees, port_trees, header_trees, register_trees, net_assignment_trees, connections_trees, instance_trees, item_trees, module_trees}
+use Rattle.src_text.specs.Trees.{all_trees, option_trees}
+use Rattle.node_places.proofs.Beside.{end1, end2, end3, in_one, more_trees, more_parts, more_first, both}
+use Rattle.node_places.proofs.Looks.{first_in, of_values}
+use Rattle.v_tree.specs.Nodes.{stmt_trees, range_trees, parameter_range_trees, declared_trees, declarator_trees, parameter_trees, parameters_trees, port_trees, header_trees, register_trees, net_assignment_trees, connections_trees, instance_trees, item_trees, module_trees}
 use Rattle.v_tree.specs.Starts.{item_start}
 use Rattle.v_stack.specs.Values.{Values}
 use Rattle.v_stack.specs.declared.values.Value.TheVariants as Value
@@ -16,10 +19,9 @@ use Rattle.v_stack.specs.declared.values.ModuleValue.TheVariants as ModuleValue
 use Rattle.v_actions.specs.declared.actions.ModuleAction.TheVariants as module_action
 use Rattle.v_actions.specs.Module.{module_act}
 use Rattle.v_actions.specs.Sorts.{sorts_of}
-use Rattle.v_actions.proofs.Tops.{has_declarators, has_declared_names, has_direction, has_event, has_groups, has_header, has_instances, has_item, has_items, has_module, has_modules, has_name, has_names, has_net_assignments, has_net_kind, has_overrides, has_parameter_range, has_parameters, has_place, has_ports, has_range_option, has_registers, has_sign, has_stmt}
-use Rattle.v_depth.proofs.Values.{first_in, name_start, parameters_start, port_start, module_start, looks_of}
-use Rattle.v_depth.proofs.Trees.{end1, end2, end3, in_one, more_trees, more_parts, more_first, or_none, both, whole}
-use Rattle.v_depth.proofs.Woven.{of_values, Looks}
+use Rattle.v_actions.proofs.TopOfSort.{has_declarators, has_declared_names, has_direction, has_event, has_groups, has_header, has_instances, has_item, has_items, has_module, has_modules, has_name, has_names, has_net_assignments, has_net_kind, has_overrides, has_parameter_range, has_parameters, has_place, has_ports, has_range_option, has_registers, has_sign, has_stmt}
+use Rattle.v_depth.proofs.Values.{name_start, parameters_start, port_start, module_start, looks_of, Looks}
+use Rattle.v_depth.proofs.Begins.{or_none, whole}
 
 pub look_port_item : (nothing own : Place) (st : Values) (rest : List ℕ) → sorts_of st ≡ 26 ∷ 21 ∷ 30 ∷ 29 ∷ 6 ∷ rest → Looks nothing (of_values 5 1) own st (module_act module_action.PortItem st)
 look_port_item nothing own st rest e = has_declared_names (Looks nothing (of_values 5 1) own) _ st _ e (λ names st1 e1. has_range_option (λ s o. Looks nothing (of_values 5 1) own (Value.Names (NamesValue.DeclaredNames names) ∷ s) o) _ st1 _ e1 (λ range st2 e2. has_sign (λ s o. Looks nothing (of_values 5 1) own (Value.Names (NamesValue.DeclaredNames names) ∷ Value.Expr (ExprValue.RangeOption range) ∷ s) o) _ st2 _ e2 (λ signed st3 e3. has_net_kind (λ s o. Looks nothing (of_values 5 1) own (Value.Names (NamesValue.DeclaredNames names) ∷ Value.Expr (ExprValue.RangeOption range) ∷ Value.Declare (DeclareValue.Sign signed) ∷ s) o) _ st3 _ e3 (λ net st4 e4. has_direction (λ s o. Looks nothing (of_values 5 1) own (Value.Names (NamesValue.DeclaredNames names) ∷ Value.Expr (ExprValue.RangeOption range) ∷ Value.Declare (DeclareValue.Sign signed) ∷ Value.Declare (DeclareValue.NetKind net) ∷ s) o) _ st4 _ e4 (λ direction st5 e5. both (looks_of nothing st5) refl (in_one direction.place (end2 (option_trees range_trees range) (all_trees declared_trees names))))))))

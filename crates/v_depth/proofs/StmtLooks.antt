@@ -2,9 +2,11 @@
 use Rattle.std.proofs.Common.{◌≡◌, ℕ, List, ◌∷◌, refl, ◌∙◌, ap, Some}
 use Rattle.src_text.specs.declared.refusal.Place.{Place}
 use Rattle.v_tree.specs.declared.stmt.CaseKind.TheVariants as case_kind
-use Rattle.v_tree.specs.Nodes.{all_trees, expr_trees, selection_trees, target_trees, stmt_trees, case_item_tree}
+use Rattle.v_tree.specs.Nodes.{expr_trees, selection_trees, target_trees, stmt_trees, case_item_tree}
 use Rattle.v_tree.specs.Starts.{target_start, stmt_start, case_item_start}
-use Rattle.v_tree.specs.Trees.{also}
+use Rattle.src_text.specs.Trees.{also, all_trees}
+use Rattle.node_places.proofs.Beside.{also_assoc, end1, end2, end3, end4, in_one, more_trees, more_first, both, wrapped}
+use Rattle.node_places.proofs.Looks.{of_values}
 use Rattle.v_tree.proofs.Equations.{case_item-start, target_join_trees, block_trees, if_trees, if_else_trees, case_trees, for_trees, values_tree, default_tree}
 use Rattle.v_stack.specs.Values.{Values}
 use Rattle.v_stack.specs.declared.values.Value.TheVariants as Value
@@ -14,10 +16,9 @@ use Rattle.v_stack.specs.declared.values.StmtValue.TheVariants as StmtValue
 use Rattle.v_actions.specs.declared.actions.StmtAction.TheVariants as stmt_action
 use Rattle.v_actions.specs.Stmt.{stmt_act}
 use Rattle.v_actions.specs.Sorts.{sorts_of}
-use Rattle.v_actions.proofs.Tops.{has_assignment_kind, has_case_item, has_case_items, has_expr, has_exprs, has_label, has_name, has_place, has_selection, has_stmt, has_stmts, has_target, has_targets}
-use Rattle.v_depth.proofs.Values.{looks_of}
-use Rattle.v_depth.proofs.Trees.{also_assoc, end1, end2, end3, end4, in_one, more_trees, more_first, values_or, both, wrapped}
-use Rattle.v_depth.proofs.Woven.{of_values, Looks}
+use Rattle.v_actions.proofs.TopOfSort.{has_assignment_kind, has_case_item, has_case_items, has_expr, has_exprs, has_label, has_name, has_place, has_selection, has_stmt, has_stmts, has_target, has_targets}
+use Rattle.v_depth.proofs.Values.{looks_of, Looks}
+use Rattle.v_depth.proofs.Begins.{values_or}
 
 pub look_target_name : (nothing own : Place) (st : Values) (rest : List ℕ) → sorts_of st ≡ 2 ∷ rest → Looks nothing (of_values 1 1) own st (stmt_act stmt_action.TargetName st)
 look_target_name nothing own st rest e = has_name (Looks nothing (of_values 1 1) own) _ st _ e (λ name st1 e1. refl)

@@ -21,9 +21,9 @@ use Rattle.v_tree.specs.declared.item.Port.{Port}
 use Rattle.v_tree.specs.declared.item.Range.{Range}
 use Rattle.v_tree.specs.declared.item.Register.{Register}
 use Rattle.v_tree.specs.declared.name.Identifier.{Identifier}
-use Rattle.v_tree.specs.Nodes.{all_trees, option_trees, expr_trees, selection_trees, target_trees, stmt_trees, case_item_tree, range_trees, parameter_range_trees, declared_trees, declarator_trees, parameter_trees, parameters_trees, port_trees, header_trees, register_trees, net_assignment_trees, ordered_trees, named_trees, connections_trees, instance_trees, item_trees, module_trees, leaf}
+use Rattle.v_tree.specs.Nodes.{expr_trees, selection_trees, target_trees, stmt_trees, case_item_tree, range_trees, parameter_range_trees, declared_trees, declarator_trees, parameter_trees, parameters_trees, port_trees, header_trees, register_trees, net_assignment_trees, ordered_trees, named_trees, connections_trees, instance_trees, item_trees, module_trees}
 use Rattle.v_tree.specs.Starts.{expr_start, target_start, stmt_start, case_item_start, item_start}
-use Rattle.v_tree.specs.Trees.{Trees, none, node, one}
+use Rattle.src_text.specs.Trees.{Trees, none, node, one, all_trees, option_trees, leaf}
 use Rattle.v_stack.specs.Values.{Values}
 use Rattle.v_stack.specs.declared.values.Value.{Value}
 use Rattle.v_stack.specs.declared.values.TokenValue.TheVariants as TokenValue
@@ -34,11 +34,7 @@ use Rattle.v_stack.specs.declared.values.NamesValue.TheVariants as NamesValue
 use Rattle.v_stack.specs.declared.values.ConnectValue.TheVariants as ConnectValue
 use Rattle.v_stack.specs.declared.values.PartValue.TheVariants as PartValue
 use Rattle.v_stack.specs.declared.values.ModuleValue.TheVariants as ModuleValue
-use Rattle.v_depth.proofs.Looks.{PlaceLook}
-
-abbrev pub first_in : {A : Type 0} → (A → Place) → List A → Option Place
-first_in start [] = None
-first_in start (x ∷ xs) = Some (start x)
+use Rattle.node_places.proofs.Looks.{PlaceLook}
 
 -- the place of the first of some trees, which is where a selection begins
 abbrev pub root_first : Trees → Option Place
@@ -216,3 +212,8 @@ look_of_value nothing v = record { first = first_of_value v; trees = trees_of_va
 -- The looks of a stack. A file without tokens begins at `nothing`.
 abbrev pub looks_of : (nothing : Place) → Values → List PlaceLook
 looks_of nothing st = map (look_of_value nothing) st
+
+-- what is left is a stack that looks as the weave makes it, where the last token is at `place`
+abbrev pub Looks : (nothing : Place) → Weave → (place : Place) → Values → Option Values → Type 0
+Looks nothing w place st None = ⊥
+Looks nothing w place st (Some new) = looks_of nothing new ≡ placed_weaves nothing w place (looks_of nothing st)

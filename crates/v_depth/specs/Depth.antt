@@ -1,26 +1,14 @@
 -- How deep the tree of a Verilog text is, and where its first node stands that is too deep. A node stands as deep as there
 -- are nodes around it, and one more; the file stands 1 deep.
 use Rattle.std.specs.Prelude.{◌≡◌, ℕ, ◌+◌, ◌<◌, ◌≤◌, List, length, map, slice_index_or, Option, MatchOption}
-use Rattle.std.proofs.Common.{suc}
 use Rattle.src_text.specs.declared.refusal.Place.{Place}
 use Rattle.src_text.specs.Place.{place_at}
 use Rattle.text_scan.specs.declared.scanner.Token.{Token}
 use Rattle.v_tree.specs.declared.item.VTree.{VTree}
 use Rattle.v_tree.specs.Nodes.{height}
 use Rattle.v_tree.specs.Nodes as nodes
-use Rattle.v_tree.specs.Trees.{Trees, none, node}
+use Rattle.src_text.specs.Trees.{Stands}
 use Rattle.v_actions.specs.Reading.{tokens_in}
-
--- Among trees whose roots stand x deep, a node stands y deep and begins at place p.
-pub data Stands : ℕ → Trees → ℕ → Place → Type 0 where
-  here : {x : ℕ} {p : Place} {a b : Trees} → Stands x (node p a b) x p
-  inside : {x y : ℕ} {p q : Place} {a b : Trees} → Stands (suc x) a y q → Stands x (node p a b) y q
-  after : {x y : ℕ} {p q : Place} {a b : Trees} → Stands x b y q → Stands x (node p a b) y q
-
--- how many nodes there are
-abbrev pub size : Trees → ℕ
-size none = 0
-size (node p a b) = 1 + size a + size b
 
 -- the place of token i, or that of the end
 abbrev pub place_of_token : (text : List ℕ) → List Token → ℕ → Place

@@ -1,5 +1,6 @@
 -- What the actions of a derivation tell of the tree that they build.
 use Rattle.std.specs.Prelude.{◌≡◌, ℕ, ◌+◌, ◌<◌, ◌≤◌, List, [], ◌∷◌, length, Option, Some}
+use Rattle.src_text.specs.Trees.{size}
 use Rattle.ll_parse.specs.Grammar.{Parses}
 use Rattle.node_depth.specs.Nodes.{count, Deep}
 use Rattle.node_depth.specs.Weaves.{Look, woven}
@@ -10,7 +11,7 @@ use Rattle.v_stack.specs.declared.values.Value.TheVariants as Value
 use Rattle.v_stack.specs.declared.values.ModuleValue.TheVariants as ModuleValue
 use Rattle.v_actions.specs.Acts.{built}
 use Rattle.v_actions.specs.Reading.{V, kinds_of, tokens_in, lexemes, actions_of, IsVerilogSource}
-use Rattle.v_depth.specs.Depth.{DeepAt, size}
+use Rattle.v_depth.specs.Depth.{DeepAt}
 
 -- The actions weave one tree of nodes over token numbers, and what is known of the depth of that is so of the tree.
 pub record IsTold (text productions : List ℕ) (tree : VTree) : Type 0 where

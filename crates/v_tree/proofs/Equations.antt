@@ -1,6 +1,6 @@
 -- What the starts and the trees of a part are, at the values that code makes.
 use Rattle.std.proofs.Common.{◌≡◌, List, [], ◌∷◌, Option, refl, ap}
-use Rattle.v_tree.specs.Trees.{also, one}
+use Rattle.src_text.specs.Trees.{also, one, all_trees}
 use Rattle.src_text.specs.declared.refusal.Place.{Place}
 use Rattle.v_tree.specs.declared.expr.BinaryOperator.{BinaryOperator}
 use Rattle.v_tree.specs.declared.expr.Expr.{Expr}
@@ -21,7 +21,7 @@ use Rattle.v_tree.specs.declared.stmt.Target.{Target}
 use Rattle.v_tree.specs.declared.stmt.Target as in_target
 use Rattle.v_tree.specs.declared.stmt.Target.TheVariants as target
 use Rattle.v_tree.specs.Starts.{expr_start, stmt_start, values_start, case_item_start}
-use Rattle.v_tree.specs.Nodes.{all_trees, expr_trees, selection_trees, part_trees, target_trees, target_part_trees, head_trees, stmt_trees, body_trees, case_item_tree, case_item_trees}
+use Rattle.v_tree.specs.Nodes.{expr_trees, selection_trees, part_trees, target_trees, target_part_trees, head_trees, stmt_trees, body_trees, case_item_tree, case_item_trees}
 
 pub part_trees-hidden : (xs : List Expr) → part_trees (in_expr.TheBlock.hidden-the_row-Expr-2 xs) ≡ all_trees expr_trees xs
 unfolding in_expr.TheBlock.hidden-the_row-Expr-2 denote.Hole.Carrier.hidden

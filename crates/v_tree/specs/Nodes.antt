@@ -2,10 +2,9 @@
 -- call, literal, name, concatenation and pair of parentheses round an expression. A node stands directly in the next
 -- one round it. No node of its own has a level without an operator, a port, a range, an event, an assignment of
 -- `assign` and a part of a loop's head.
-use Rattle.std.specs.Prelude.{ℕ, List, [], ◌∷◌, Option, Some, None}
-use Rattle.v_tree.specs.Trees.{Trees, none, also, one}
-use Rattle.v_tree.specs.Trees as trees
-use Rattle.src_text.specs.declared.refusal.Place.{Place}
+use Rattle.std.specs.Prelude.{ℕ}
+use Rattle.src_text.specs.Trees.{Trees, none, also, one, leaf, all_trees, option_trees}
+use Rattle.src_text.specs.Trees as trees
 use Rattle.v_tree.specs.declared.expr.Expr.{Expr}
 use Rattle.v_tree.specs.declared.expr.Expr as expr
 use Rattle.v_tree.specs.declared.expr.Selection.{Selection}
@@ -39,18 +38,6 @@ use Rattle.v_tree.specs.declared.stmt.Stmt as stmt
 use Rattle.v_tree.specs.declared.stmt.Target.{Target}
 use Rattle.v_tree.specs.declared.stmt.Target as target
 use Rattle.v_tree.specs.Starts.{literal_start, expr_start, target_start, stmt_start, values_start}
-
-abbrev pub leaf : Place → Trees
-leaf place = one place none
-
--- the trees of a list's elements, side by side
-abbrev pub all_trees : {A : Type 0} → (A → Trees) → List A → Trees
-all_trees trees [] = none
-all_trees trees (x ∷ xs) = also (trees x) (all_trees trees xs)
-
-abbrev pub option_trees : {A : Type 0} → (A → Trees) → Option A → Trees
-option_trees trees None = none
-option_trees trees (Some x) = trees x
 
 -- Expressions: a node has the place of its first token, and holds its operands or parts.
 abbrev mutual

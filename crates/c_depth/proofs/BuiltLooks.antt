@@ -1,15 +1,15 @@
 -- What the steps weave over tokens is how the values look that they build.
-use Rattle.std.proofs.Common.{◌≡◌, ℕ, suc, zero, ◌-◌, ◌<◌, Bool, true, false, cond, ◌&&◌, not, List, [], ◌∷◌, ◌++◌, length, map, get_or, Option, Some, None, refl, sym, ◌∙◌, ap, option_and_then, arith}
-use Rattle.std.proofs.lemmas.Bool.{and_parts}
+use Rattle.std.proofs.Common.{◌≡◌, ℕ, suc, ◌-◌, ◌<◌, true, List, [], ◌∷◌, ◌++◌, length, map, get_or, Option, Some, None, refl, sym, ◌∙◌, ap, option_and_then, arith}
 use Rattle.std.proofs.lemmas.List.{get_or-map, length-map}
 use Rattle.src_text.specs.declared.refusal.Place.{Place}
 use Rattle.src_text.specs.Place.{place_at}
-use Rattle.ll_actions.specs.After.{kinds_before, IsAfter, IsPlaced, is_claimed}
+use Rattle.ll_actions.specs.After.{kinds_before, IsPlaced}
 use Rattle.ll_actions.specs.Sorts.{Signature, sorts_after, signature_of}
 use Rattle.ll_actions.specs.declared.step.Step.{Step}
 use Rattle.ll_actions.proofs.Typed.{next_step}
 use Rattle.node_depth.specs.declared.weave.Weave.{Weave}
 use Rattle.node_depth.specs.Weaves.{Look, weave_of, weaves, woven}
+use Rattle.node_depth.proofs.Claims.{do_claim, claimed, after_some}
 use Rattle.c_tokens.specs.declared.directives.CToken.{CToken}
 use Rattle.c_grammar.specs.Actions.{SIGNATURES, AFTER}
 use Rattle.c_grammar.specs.declared.TheConstants.{WEAVES}
@@ -19,33 +19,15 @@ use Rattle.c_actions.specs.Numbers.{action_of}
 use Rattle.c_actions.specs.Reading.{kinds_of, token_before, end_of, spelling, built, place_of_token, NO_TOKEN}
 use Rattle.c_actions.specs.Sorts.{sorts_of}
 use Rattle.c_actions.proofs.Fitting.{Makes}
-use Rattle.c_actions.proofs.Turns.{signature, signature_at, fit}
-use Rattle.c_depth.proofs.Looks.{PlaceLook, map_look, placed_weaves, weaves_map, own_place}
-use Rattle.c_depth.proofs.Turns.{weave, weave_at, look_action}
-use Rattle.c_depth.proofs.Values.{looks_of}
-use Rattle.c_depth.proofs.Woven.{Looks}
+use Rattle.c_actions.proofs.EachFits.{signature, signature_at, fit}
+use Rattle.node_places.proofs.Looks.{PlaceLook, map_look, placed_weaves, weaves_map, own_place}
+use Rattle.c_depth.proofs.ActionLooks.{weave, weave_at, look_action}
+use Rattle.c_depth.proofs.Values.{looks_of, Looks}
 
 -- each action whose value begins at a token comes right after a token of a kind that is known
-abbrev do_claim : List Weave → List (List ℕ) → Bool
-do_claim [] after = true
-do_claim (w ∷ ws) [] = not w.own && do_claim ws []
-do_claim (w ∷ ws) (ks ∷ after) = cond w.own (is_claimed ks) true && do_claim ws after
-
 claim : do_claim WEAVES AFTER ≡ true
 unfolding AFTER
 claim = refl
-
-claimed : (ws : List Weave) (after : List (List ℕ)) (a : ℕ) → do_claim ws after ≡ true → (weave_of ws a).own ≡ true → is_claimed (kinds_before after a) ≡ true
-claimed [] after a h own = absurd (let z : false ≡ true = own in cc)
-claimed (w ∷ ws) [] zero h own = absurd (let p = and_parts (not w.own) (do_claim ws []) h in let q : not w.own ≡ true = p.0 in cc)
-claimed (w ∷ ws) [] (suc a) h own = claimed ws [] a (and_parts (not w.own) (do_claim ws []) h).1 own
-claimed (w ∷ ws) (ks ∷ after) zero h own =
-    let p = and_parts (cond w.own (is_claimed ks) true) (do_claim ws after) h in ap (λ b. cond b (is_claimed ks) true) (sym own) ∙ p.0
-claimed (w ∷ ws) (ks ∷ after) (suc a) h own = claimed ws after a (and_parts (cond w.own (is_claimed ks) true) (do_claim ws after) h).1 own
-
-after_some : (kinds tokens : List ℕ) (i : ℕ) → is_claimed kinds ≡ true → IsAfter kinds tokens i → 0 < i
-after_some [] tokens i c h = absurd (let z : false ≡ true = c in cc)
-after_some (k ∷ ks) tokens i c h = h.0
 
 -- the token right before a step of its own has the place of its number
 own_token : (text : List ℕ) (tokens : List CToken) (s : Step) → IsPlaced AFTER (kinds_of tokens) s → (weave_of WEAVES s.action).own ≡ true →

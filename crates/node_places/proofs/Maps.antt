@@ -3,8 +3,7 @@ use Rattle.std.proofs.Common.{◌≡◌, ℕ, suc, ◌+◌, max, ◌⊎◌, inl,
 use Rattle.src_text.specs.declared.refusal.Place.{Place}
 use Rattle.node_depth.specs.Nodes as numbers
 use Rattle.node_count.specs.Counts as counts
-use Rattle.v_tree.specs.Trees.{Trees, none, node, height, also, one}
-use Rattle.v_depth.specs.Depth.{size, Stands, here, inside, after}
+use Rattle.src_text.specs.Trees.{Trees, none, node, height, size, also, one, Stands, here, inside, after}
 
 module _ (f : ℕ → Place) where
   abbrev pub map_trees : numbers.Trees → Trees

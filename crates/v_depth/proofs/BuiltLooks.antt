@@ -1,16 +1,16 @@
 -- What the steps weave over tokens is how the values look that they build.
-use Rattle.std.proofs.Common.{◌≡◌, ℕ, suc, zero, ◌-◌, ◌<◌, Bool, true, false, cond, ◌&&◌, not, List, [], ◌∷◌, ◌++◌, length, map, get_or, Option, Some, None, refl, sym, ◌∙◌, ap, option_and_then, arith}
-use Rattle.std.proofs.lemmas.Bool.{and_parts}
+use Rattle.std.proofs.Common.{◌≡◌, ℕ, suc, ◌-◌, ◌<◌, true, List, [], ◌∷◌, ◌++◌, length, map, get_or, Option, Some, None, refl, sym, ◌∙◌, ap, option_and_then, arith}
 use Rattle.std.proofs.lemmas.List.{get_or-map, length-map}
 use Rattle.src_text.specs.declared.refusal.Place.{Place}
 use Rattle.src_text.specs.Place.{place_at}
 use Rattle.text_scan.specs.declared.scanner.Token.{Token}
-use Rattle.ll_actions.specs.After.{kinds_before, IsAfter, IsPlaced, is_claimed, are_placed}
+use Rattle.ll_actions.specs.After.{kinds_before, IsPlaced, are_placed}
 use Rattle.ll_actions.specs.Sorts.{Signature, sorts_after, signature_of}
 use Rattle.ll_actions.specs.declared.step.Step.{Step}
 use Rattle.ll_actions.proofs.Typed.{next_step}
 use Rattle.node_depth.specs.declared.weave.Weave.{Weave}
 use Rattle.node_depth.specs.Weaves.{Look, weave_of, weaves, woven}
+use Rattle.node_depth.proofs.Claims.{do_claim, claimed, after_some}
 use Rattle.v_grammar.specs.Sorts.{SIGNATURES}
 use Rattle.v_grammar.specs.Verilog.{VERILOG}
 use Rattle.v_grammar.specs.declared.TheConstants.{MARKS, WEAVES}
@@ -23,10 +23,9 @@ use Rattle.v_actions.specs.Tokens.{Lexemes, place_in}
 use Rattle.v_actions.proofs.Fitting.{Makes, signature, signature_at, fit}
 use Rattle.v_depth.specs.After.{AFTER, SPOTS}
 use Rattle.v_depth.specs.Depth.{place_of_token}
-use Rattle.v_depth.proofs.Looks.{PlaceLook, map_look, placed_weaves, weaves_map, own_place}
-use Rattle.v_depth.proofs.Turns.{weave, weave_at, look_action}
-use Rattle.v_depth.proofs.Values.{looks_of}
-use Rattle.v_depth.proofs.Woven.{Looks}
+use Rattle.node_places.proofs.Looks.{PlaceLook, map_look, placed_weaves, weaves_map, own_place}
+use Rattle.v_depth.proofs.ActionLooks.{weave, weave_at, look_action}
+use Rattle.v_depth.proofs.Values.{looks_of, Looks}
 
 -- each action that makes a value of a token comes right after one
 pub verilog_is_placed : are_placed VERILOG MARKS AFTER SPOTS ≡ true
@@ -34,26 +33,9 @@ unfolding VERILOG AFTER SPOTS
 verilog_is_placed = refl
 
 -- each action whose value begins at a token comes right after a token of a kind that is known
-abbrev do_claim : List Weave → List (List ℕ) → Bool
-do_claim [] after = true
-do_claim (w ∷ ws) [] = not w.own && do_claim ws []
-do_claim (w ∷ ws) (ks ∷ after) = cond w.own (is_claimed ks) true && do_claim ws after
-
 claim : do_claim WEAVES AFTER ≡ true
 unfolding AFTER
 claim = refl
-
-claimed : (ws : List Weave) (after : List (List ℕ)) (a : ℕ) → do_claim ws after ≡ true → (weave_of ws a).own ≡ true → is_claimed (kinds_before after a) ≡ true
-claimed [] after a h own = absurd (let z : false ≡ true = own in cc)
-claimed (w ∷ ws) [] zero h own = absurd (let p = and_parts (not w.own) (do_claim ws []) h in let q : not w.own ≡ true = p.0 in cc)
-claimed (w ∷ ws) [] (suc a) h own = claimed ws [] a (and_parts (not w.own) (do_claim ws []) h).1 own
-claimed (w ∷ ws) (ks ∷ after) zero h own =
-    let p = and_parts (cond w.own (is_claimed ks) true) (do_claim ws after) h in ap (λ b. cond b (is_claimed ks) true) (sym own) ∙ p.0
-claimed (w ∷ ws) (ks ∷ after) (suc a) h own = claimed ws after a (and_parts (cond w.own (is_claimed ks) true) (do_claim ws after) h).1 own
-
-after_some : (kinds tokens : List ℕ) (i : ℕ) → is_claimed kinds ≡ true → IsAfter kinds tokens i → 0 < i
-after_some [] tokens i c h = absurd (let z : false ≡ true = c in cc)
-after_some (k ∷ ks) tokens i c h = h.0
 
 -- the token right before a step of its own has the place of its number
 own_token : (text : List ℕ) (tokens : List Token) (s : Step) → IsPlaced AFTER (kinds_of tokens) s → (weave_of WEAVES s.action).own ≡ true →

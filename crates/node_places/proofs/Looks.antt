@@ -8,13 +8,18 @@ use Rattle.src_text.specs.declared.refusal.Place.{Place}
 use Rattle.node_depth.specs.declared.weave.Weave.{Weave}
 use Rattle.node_depth.specs.Nodes as numbers
 use Rattle.node_depth.specs.Weaves.{Look, first_of, trees_of, under, look_of, weaves}
-use Rattle.v_tree.specs.Trees.{Trees, none, also, one}
-use Rattle.v_depth.proofs.Maps.{map_trees, also_map}
+use Rattle.src_text.specs.Trees.{Trees, none, also, one}
+use Rattle.node_places.proofs.Maps.{map_trees, also_map}
 
 -- A value: the place of its first token, where it has one, and its trees.
 pub record PlaceLook : Type 0 where
   pub first : Option Place
   pub trees : Trees
+
+-- where the first of a list begins
+abbrev pub first_in : {A : Type 0} → (A → Place) → List A → Option Place
+first_in start [] = None
+first_in start (x ∷ xs) = Some (start x)
 
 abbrev pub first_place : List PlaceLook → Option Place
 first_place [] = None
@@ -27,6 +32,13 @@ place_trees (l ∷ ls) = also l.trees (place_trees ls)
 abbrev pub under_place : ℕ → Place → Trees → Trees
 under_place zero p t = t
 under_place (suc n) p t = under_place n p (one p t)
+
+-- a value that is made of other values, and one that is made of a token
+abbrev pub of_values : (takes nodes : ℕ) → Weave
+of_values takes nodes = record { takes = takes; nodes = nodes; own = false }
+
+abbrev pub of_token : (nodes : ℕ) → Weave
+of_token nodes = record { takes = 0; nodes = nodes; own = true }
 
 -- the value of an action right after the token at `place`
 abbrev pub placed_look : (nothing : Place) → Weave → (place : Place) → List PlaceLook → PlaceLook
@@ -99,3 +111,14 @@ own_place nothing w p q st h = by w.own h
     by : (own : Bool) → (own ≡ true → p ≡ q) → given nothing w st own p ≡ given nothing w st own q
     by true k = ap (given nothing w st true) (k refl)
     by false k = refl
+
+-- what is mapped to one look is one look
+pub record Lone (f : ℕ → Place) (ls : List Look) (x : PlaceLook) : Type 0 where
+  pub look : Look
+  pub is : ls ≡ look ∷ []
+  pub trees : map_trees f look.trees ≡ x.trees
+
+pub lone_look : (f : ℕ → Place) (ls : List Look) (x : PlaceLook) → x ∷ [] ≡ map (map_look f) ls → Lone f ls x
+lone_look f [] x e = absurd (let z : x ∷ [] ≡ [] = e in cc)
+lone_look f (l ∷ []) x e = record { look = l; is = refl; trees = ap (λ (y : PlaceLook). y.trees) (let z : map_look f l ≡ x = cc in z) }
+lone_look f (l ∷ k ∷ ls) x e = absurd (let z : x ∷ [] ≡ map_look f l ∷ map_look f k ∷ map (map_look f) ls = e in cc)

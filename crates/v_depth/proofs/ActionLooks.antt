@@ -4,6 +4,7 @@ use Rattle.std.proofs.Math.ListN.{get_or-map}
 use Rattle.src_text.specs.declared.refusal.Place.{Place}
 use Rattle.node_depth.specs.declared.weave.Weave.{Weave}
 use Rattle.node_depth.specs.Weaves.{weave_of}
+use Rattle.node_places.proofs.Looks.{of_values, of_token}
 use Rattle.v_actions.specs.declared.actions.TokenAction.{TokenAction}
 use Rattle.v_actions.specs.declared.actions.TokenAction.TheVariants as token_action
 use Rattle.v_actions.specs.declared.actions.ExprAction.{ExprAction}
@@ -31,7 +32,7 @@ use Rattle.v_actions.specs.Tokens.{Lexemes, place_in, token_value}
 use Rattle.v_actions.proofs.Fitting.{signature}
 use Rattle.v_stack.specs.Values.{Values}
 use Rattle.v_grammar.specs.declared.TheConstants.{WEAVES}
-use Rattle.v_depth.proofs.Woven.{of_values, of_token, Looks}
+use Rattle.v_depth.proofs.Values.{Looks}
 use Rattle.v_depth.proofs.ExprLooks.{look_decimal_literal, look_based_literal, look_sized_literal, look_name_alone, look_select, look_unary, look_binary, look_conditional, look_parentheses, look_concatenation, look_replication, look_signed_call, look_unsigned_call, look_index_selection, look_range_selection, look_up_selection, look_down_selection, look_no_exprs, look_add_expr, look_first_expr, look_some_expr, look_no_expr}
 use Rattle.v_depth.proofs.StmtLooks.{look_target_name, look_target_select, look_target_concatenation, look_no_targets, look_add_target, look_blocking, look_nonblocking, look_assignment, look_empty, look_some_label, look_no_label, look_block, look_no_stmts, look_add_stmt, look_if_alone, look_if_else, look_case, look_casez, look_values_item, look_default_item, look_no_case_items, look_add_case_item, look_for}
 use Rattle.v_depth.proofs.DeclareLooks.{look_range, look_some_range, look_no_range, look_signed_range, look_plain_range, look_no_parameter_range, look_parameter, look_no_parameters, look_add_parameter, look_no_names, look_add_name, look_no_declared, look_add_declared, look_declarator, look_no_declarators, look_add_declarator, look_wire_kind, look_reg_kind, look_no_kind, look_signed, look_unsigned, look_plain_register, look_initialized_register, look_memory, look_no_registers, look_add_register}

@@ -1,5 +1,5 @@
 -- Trees as their nodes alone, each with the place of its first token.
-use Rattle.std.specs.Prelude.{ℕ, ◌+◌, max}
+use Rattle.std.specs.Prelude.{ℕ, ◌+◌, max, List, [], ◌∷◌, Option, Some, None}
 use Rattle.std.proofs.Common.{suc}
 use Rattle.src_text.specs.declared.refusal.Place.{Place}
 
@@ -26,6 +26,20 @@ also (node p a b) g = node p a (also b g)
 -- one tree
 abbrev pub one : Place → Trees → Trees
 one p f = node p f none
+
+-- a node without more inside it
+abbrev pub leaf : Place → Trees
+leaf p = one p none
+
+-- the trees of a list's elements, side by side
+abbrev pub all_trees : {A : Type 0} → (A → Trees) → List A → Trees
+all_trees trees [] = none
+all_trees trees (x ∷ xs) = also (trees x) (all_trees trees xs)
+
+-- the nodes of a part, if there is one
+abbrev pub option_trees : {A : Type 0} → (A → Trees) → Option A → Trees
+option_trees trees None = none
+option_trees trees (Some x) = trees x
 
 -- Among trees whose roots stand x deep, a node stands y deep and begins at place p.
 pub data Stands : ℕ → Trees → ℕ → Place → Type 0 where

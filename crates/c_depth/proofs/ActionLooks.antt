@@ -4,6 +4,7 @@ use Rattle.std.proofs.Math.ListN.{get_or-map}
 use Rattle.src_text.specs.declared.refusal.Place.{Place}
 use Rattle.node_depth.specs.declared.weave.Weave.{Weave}
 use Rattle.node_depth.specs.Weaves.{weave_of}
+use Rattle.node_places.proofs.Looks.{of_values, of_token}
 use Rattle.c_actions.specs.declared.actions.TokenAction.{TokenAction}
 use Rattle.c_actions.specs.declared.actions.TokenAction.TheVariants as token_action
 use Rattle.c_actions.specs.declared.actions.ExpressionAction.{ExpressionAction}
@@ -20,10 +21,10 @@ use Rattle.c_actions.specs.Acts.{after_action, after_token_action, after_express
 use Rattle.c_actions.specs.declared.actions.TheConstants.{ACTIONS}
 use Rattle.c_actions.specs.Numbers.{action_of}
 use Rattle.c_actions.specs.Sorts.{sorts_of}
-use Rattle.c_actions.proofs.Turns.{signature}
+use Rattle.c_actions.proofs.EachFits.{signature}
 use Rattle.c_stack.specs.Values.{Values}
 use Rattle.c_grammar.specs.declared.TheConstants.{WEAVES}
-use Rattle.c_depth.proofs.Woven.{of_values, of_token, Looks}
+use Rattle.c_depth.proofs.Values.{Looks}
 use Rattle.c_depth.proofs.TokenLooks.{look_place, look_name, look_declared, look_integer, look_character, look_true, look_false, look_static, look_word_type, look_sign, look_unary_mark, look_binary_mark, look_assignment_mark, look_step_mark}
 use Rattle.c_depth.proofs.ExpressionLooks.{look_object, look_add_path_member, look_path, look_element, look_no_expressions, look_one_expression, look_add_expression, look_no_expression, look_some_expression, look_read, look_parentheses, look_unary, look_cast, look_binary, look_conditional}
 use Rattle.c_depth.proofs.DeclarationLooks.{look_char_type, look_short_type, look_int_type, look_long_type, look_value, look_call_value, look_no_initializer, look_some_initializer, look_plain_declarator, look_initialized, look_array_declarator, look_initialized_array, look_one_declarator, look_add_declarator, look_local, look_const_local, look_plain_item, look_array_item, look_one_item, look_add_item, look_one_name, look_add_name, look_integer_members, look_struct_members, look_one_member, look_add_member, look_no_name, look_some_name, look_parameter, look_const_parameter, look_no_parameters, look_one_parameter, look_add_parameter}
