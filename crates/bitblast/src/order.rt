@@ -1,7 +1,7 @@
 //! Whether a list is in order: a test for callers that do not know it of how they made the list.
 
 ghost use Rattle.std.specs.Prelude.{◌≡◌, ◌↔◌, EachIndex, ◌+◌, ◌<◌, ◌≤◌, ℕ, IsTrue, length, replicate, nat_eq, slice_get, slice_index, Some, IfOk, IfSome, IfNone, false, Contains};
-ghost use Rattle.word_eqs.specs.Graph.{FitsNode, parts, places, MOST_TERMS};
+ghost use Rattle.word_eqs.specs.Graph.{FitsNode, parts, places};
 ghost use Rattle.word_eqs.specs.Guarded.{FitsAct, FitsStep, IsOrdered, act_terms, gives};
 ghost use Rattle.word_eqs.specs.declared.list.Step.{Step as Stepped};
 ghost use Rattle.bitblast.specs.Blasted.{StandsFor};
@@ -45,9 +45,9 @@ fn given(act: Act) -> Option<VarId>
     }
 }
 
-/// Gives the variable of a step its place, if it has none.
+/// Gives the variable of a step its place, counted from 1, if it has none.
 fn place_one(act: Act, k: u32, place: &mut [u32]) -> bool
-    requires { k < MOST_TERMS }
+    requires { k < 4294967295 }
     ensures { IsTrue result → Places act k place.old place.new }
 {
     if let Some(x) = given(act) {

@@ -10,20 +10,20 @@ use Rattle.bits_core.specs.Word.{number, modulo, bit, at_zero}
 use Rattle.bits_core.specs.Ops.{quotient, remainder, value1, value2, width2}
 use Rattle.word_eqs.specs.Gates.{gates2}
 use Rattle.word_eqs.specs.Graph.{Graph}
-use Rattle.word_eqs.specs.Meaning.{Values, Respects}
+use Rattle.word_eqs.specs.Meaning.{Values}
 use Rattle.joint_ir.specs.declared.ctype.IntType.{IntType}
 use Rattle.joint_ir.specs.declared.expr.BinaryOp.TheVariants.{Div, Rem}
 use Rattle.joint_ir.specs.declared.program.PropId.{PropId}
-use Rattle.joint_ir.specs.Types.{in_range, converted}
-use Rattle.joint_ir.specs.Values.{Answer, Value, Fault, checked, is_zero, binary_value}
+use Rattle.joint_ir.specs.Types.{in_range}
+use Rattle.joint_ir.specs.Values.{Answer, Value, Fault, checked, binary_value}
 use Rattle.joint_value.specs.Answers.{HasWidth}
 use Rattle.joint_value.proofs.Numbers.{number_in, rest_in}
 use Rattle.sized_terms.specs.declared.SizedTerm.{SizedTerm}
-use Rattle.sized_terms.specs.Sized.{Has, Builds, IsMade, bits}
+use Rattle.sized_terms.specs.Sized.{Has, IsMade, bits}
 use Rattle.sized_terms.proofs.Made.{made_then, made_as, builds_then}
 use Rattle.checked_terms.specs.declared.Check.{Check}
 use Rattle.checked_terms.specs.declared.Checked.{Checked}
-use Rattle.checked_terms.specs.Checked.{stands, test_then, check_of, check_gates, IsChecked, IsPlain}
+use Rattle.checked_terms.specs.Checked.{stands, test_then, check_of, IsChecked, IsPlain}
 use Rattle.checked_terms.proofs.Fits.{converted_is}
 use Rattle.checked_terms.proofs.Works.{stands_below, checked_as, test_is, has_check, check_few, zero_of, number_modulo, not_bit}
 use Rattle.division_terms.specs.Division.{quotient_fits, divided}

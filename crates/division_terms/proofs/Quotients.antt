@@ -1,25 +1,17 @@
 -- Quotients and remainders of words.
-use Rattle.std.proofs.Common.{◌≡◌, ◌≢◌, ℕ, zero, suc, ◌+◌, ◌-◌, ◌*◌, ◌/◌, ◌%◌, ◌<◌, ◌≤◌, ◌^◌, Bool, true, false, ◌⊎◌, inl, inr, Option, Some, None, refl, sym, ap, ◌∙◌, subst, arith}
-use Rattle.std.specs.Prelude.{ℤ, pos, negsuc, neg_ℤ, ◌+ℤ◌, ◌≤ℤ◌, ◌<ℤ◌, nat_eq, nat_lt, not, ◌&&◌, int_div, int_rem, IsSome}
+use Rattle.std.proofs.Common.{◌≡◌, ◌≢◌, ℕ, suc, ◌+◌, ◌-◌, ◌*◌, ◌/◌, ◌<◌, ◌≤◌, ◌^◌, Bool, true, false, ◌⊎◌, inl, inr, refl, sym, ap, ◌∙◌, subst, arith}
+use Rattle.std.specs.Prelude.{pos, negsuc, neg_ℤ, ◌+ℤ◌, ◌<ℤ◌, nat_eq, not, ◌&&◌, int_div}
 use Rattle.std.proofs.Math.Nat.{div-le_self, mod-add-div'}
 use Rattle.std.proofs.lemmas.Nat.{pow_pos}
 use Rattle.std.proofs.lemmas.Int.{ints}
 use Rattle.std.proofs.lemmas.Bool.Decides.{nat_tests}
-use Rattle.bits_core.specs.Word.{number, modulo, read_signed, at_zero}
-use Rattle.bits_core.specs.Ops.{quotient, remainder}
+use Rattle.bits_core.specs.Word.{number, read_signed}
 use Rattle.bits_core.proofs.Laws.{halves, signed_low, signed_high}
 use Rattle.word_eqs.proofs.Overflow.{IsSignedIn}
 use Rattle.joint_ir.specs.declared.ctype.IntType.{IntType}
-use Rattle.joint_ir.specs.declared.expr.BinaryOp.TheVariants.{Div, Rem}
-use Rattle.joint_ir.specs.declared.program.PropId.{PropId}
-use Rattle.joint_ir.specs.Types.{in_range, converted, InRange}
-use Rattle.joint_ir.specs.Values.{Answer, Value, Fault, checked, is_zero, binary_value}
-use Rattle.joint_value.specs.Answers.{HasWidth}
-use Rattle.joint_value.proofs.Numbers.{number_in, rest_in}
-use Rattle.checked_terms.specs.Checked.{IsPlain}
-use Rattle.checked_terms.proofs.Fits.{same_test, doubled, range_signed, signed_range, converted_is}
-use Rattle.checked_terms.proofs.Works.{zero_of, number_modulo}
-use Rattle.division_terms.specs.Division.{quotient_fits, divided}
+use Rattle.joint_ir.specs.Types.{in_range}
+use Rattle.checked_terms.proofs.Fits.{same_test, doubled, range_signed, signed_range}
+use Rattle.division_terms.specs.Division.{quotient_fits}
 
 pos_fits : (m k : ℕ) → k + k < m → IsSignedIn m (pos k)
 pos_fits m k h = record { low = omega (arith, ints); high = omega (arith, ints) }
