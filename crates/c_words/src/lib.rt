@@ -9,7 +9,8 @@ pub mod marks;
 pub mod notes;
 pub mod types;
 
+pub use joint_ir::INT;
 pub use literal::{Literal, read_literal};
 pub use marks::{Meaning, division_kind, meant, other_kind, unary_kind, unary_op, update_op};
 pub use notes::{Notes, Site, number};
-pub use types::{INT, common, named, promoted};
+pub use types::{common, named, promoted};

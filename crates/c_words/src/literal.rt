@@ -5,8 +5,7 @@ ghost use Rattle.src_text.specs.Digits.{reading};
 ghost use Rattle.std.specs.List.{list_any};
 ghost use Rattle.c_words.specs.Literals.{is_suffix as is_suffix_of, is_u as is_u_of, is_l as is_l_of, is_x as is_x_of, body_of, is_hex as is_hex_of, is_octal as is_octal_of, number_or_big, value_of, type_holding as type_holding_of, kept as kept_of, literal_of};
 
-use crate::types::INT;
-use joint_ir::IntType;
+use joint_ir::{INT, IntType, UNSIGNED};
 use src_text::read_digits;
 
 /// What an integer constant is: its value, and the first type of its list that holds it.
@@ -109,12 +108,6 @@ fn value(body: &[u8]) -> u128
         number(body, 10)
     }
 }
-
-const UNSIGNED: IntType = IntType {
-    bits: 32,
-    signed: false,
-    truth: false,
-};
 
 const LONG: IntType = IntType {
     bits: 64,

@@ -4,14 +4,7 @@ ghost use Rattle.std.specs.Prelude.{◌≡◌};
 ghost use Rattle.c_words.specs.Types.{sized as sized_of, is_signed as is_signed_of, named as named_of, promoted as promoted_of, wider as wider_of, common as common_of};
 
 use c_tree::{IntegerType, Sign};
-use joint_ir::IntType;
-
-/// The type `int`.
-pub const INT: IntType = IntType {
-    bits: 32,
-    signed: true,
-    truth: false,
-};
+use joint_ir::{INT, IntType};
 
 fn sized(bits: u8, signed: bool) -> IntType
     ensures { result ≡ sized_of bits signed }

@@ -6,7 +6,7 @@
 
 ghost use Rattle.std.specs.Prelude.{◌≡◌, ◌++◌, ◌↔◌, IfOk, OnOk, IsTrue};
 ghost use Rattle.std.specs.Option.{option_map};
-ghost use Rattle.clause_arena.specs.Clause.{IsEachOnce, has, is_subset, is_same, is_tautology, has_only, clash, without, resolve};
+ghost use Rattle.clause_arena.specs.Clause.{IsEachOnce, has, is_subset, is_tautology, has_only, clash, without, resolve};
 
 use sqlite_items::Items;
 use std::alloc::{AllocError, Global};
@@ -43,13 +43,6 @@ pub fn is_subset_of(some: &[Lit], all: &[Lit]) -> bool
     ensures { result ≡ is_subset some.now all.now }
 {
     some.iter().all(|l| has_lit(all, *l))
-}
-
-/// Whether both lists have the same literals, so that they are one clause.
-pub fn is_same_set(left: &[Lit], right: &[Lit]) -> bool
-    ensures { result ≡ is_same left.now right.now }
-{
-    is_subset_of(left, right) && is_subset_of(right, left)
 }
 
 /// Whether no literal stands twice in the list, as the arena asks of what it stores.

@@ -10,3 +10,17 @@ pub struct IntType {
     /// Whether it is `_Bool`: 1 bit, and a conversion to it gives 1 for whatever isn't 0.
     pub truth: bool,
 }
+
+/// The type `int`.
+pub const INT: IntType = IntType {
+    bits: 32,
+    signed: true,
+    truth: false,
+};
+
+/// The type `unsigned int`, which `bound` has.
+pub const UNSIGNED: IntType = IntType {
+    bits: 32,
+    signed: false,
+    truth: false,
+};

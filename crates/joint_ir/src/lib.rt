@@ -18,7 +18,7 @@ pub mod way;
 pub mod weighing;
 
 pub use bounds::{ACTIVATIONS, Bounds, Limit, LimitList};
-pub use ctype::IntType;
+pub use ctype::{INT, IntType, UNSIGNED};
 pub use event::{Choices, Event, EventList, Outcome, Shown, ShownList};
 pub use expr::{BinaryOp, LogicOp, Slot, TExpr, TExprList, TNode, UnaryOp};
 pub use module::{FirstList, FlatModule, Role, Signal, SignalList, Site, SiteList};

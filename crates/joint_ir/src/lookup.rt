@@ -8,22 +8,9 @@ ghost use Rattle.joint_ir.specs.Weighed.{names_function, HasPlainLimit, HavePlai
 ghost use Rattle.joint_ir.specs.Weights.{slot_length as length_of, var_length as length_of_var, member_length as length_of_member};
 
 use crate::bounds::{Bounds, Limit};
-use crate::ctype::IntType;
+use crate::ctype::{INT, IntType, UNSIGNED};
 use crate::expr::Slot;
 use crate::program::{CProgram, Function, Member, Prop, PropId, PropKind, Var};
-
-/// The type of `bound`.
-const UNSIGNED: IntType = IntType {
-    bits: 32,
-    signed: false,
-    truth: false,
-};
-
-const INT: IntType = IntType {
-    bits: 32,
-    signed: true,
-    truth: false,
-};
 
 /// The limit of a loop or of a function, in turns or activations.
 pub fn limit(bounds: &Bounds, prop: PropId) -> u32

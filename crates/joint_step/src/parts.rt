@@ -10,17 +10,11 @@ ghost use Rattle.joint_machine.specs.Moments.{Does, Passes, Finds, Stands, IsRea
 ghost use Rattle.joint_step.specs.Parts.{turn_left, other_way, is_plain, first_tested, may_stand};
 ghost use Rattle.joint_step.specs.Walks.{GoesOn};
 
-use joint_ir::{CProgram, Function, IntType, Outcome, SNode, Slot, TInit, TLoop, Way, lookup};
+use joint_ir::{CProgram, Function, INT, IntType, Outcome, SNode, Slot, TInit, TLoop, Way, lookup};
 use joint_machine::{Activation, Machine};
 use joint_view::Halt;
 use src_text::Place;
 use std::alloc::Global;
-
-const INT: IntType = IntType {
-    bits: 32,
-    signed: true,
-    truth: false,
-};
 
 /// Whether a function may have one more activation.
 pub fn may_begin(at: &Activation, machine: &Machine, function: u32, callee: &Function) -> bool

@@ -6,19 +6,13 @@ ghost use Rattle.show_hostile.specs.Nests.{IsNest, IsNumber, call_of, expr_of, f
 
 use anyhow::Result;
 use joint_ir::{
-    Binding, CProgram, FlatModule, Function, IntType, Pair, Prop, PropKind, SNode, TCall, TExpr,
-    TNode, TStmt, Var,
+    Binding, CProgram, FlatModule, Function, INT, IntType, Pair, Prop, PropKind, SNode, TCall,
+    TExpr, TNode, TStmt, Var,
 };
 use sqlite_items::Items;
 use src_text::{Name, Place};
 use std::alloc::Global;
 use word_eqs::Terms;
-
-pub const INT: IntType = IntType {
-    bits: 32,
-    signed: true,
-    truth: false,
-};
 
 pub const HERE: Place = Place { line: 1, column: 1 };
 

@@ -14,20 +14,14 @@ ghost use Rattle.show_replay.specs.Parts.{adding_body, adding_functions, adding_
 use anyhow::{Context, Result};
 use bits_core::{Op2, Word};
 use joint_ir::{
-    BinaryOp, Binding, CProgram, FlatModule, Function, IntType, Link, Member, MirrorDecl, Pair,
-    Prop, PropId, PropKind, Role, SNode, Signal, Slot, TCall, TExpr, TInit, TNode, TStmt, TTarget,
-    Var,
+    BinaryOp, Binding, CProgram, FlatModule, Function, INT, IntType, Link, Member, MirrorDecl,
+    Pair, Prop, PropId, PropKind, Role, SNode, Signal, Slot, TCall, TExpr, TInit, TNode, TStmt,
+    TTarget, Var,
 };
 use sqlite_items::{Boxed, Items};
 use src_text::{Name, Place};
 use std::alloc::Global;
 use word_eqs::{TermId, TermNode, Terms};
-
-const INT: IntType = IntType {
-    bits: 32,
-    signed: true,
-    truth: false,
-};
 
 const BYTE: IntType = IntType {
     bits: 8,

@@ -7,23 +7,11 @@ ghost use Rattle.joint_ir.specs.States.{rows_of};
 ghost use Rattle.joint_value.specs.Evaluable.{IsEvaluable};
 
 use anyhow::Result;
-use joint_ir::{BinaryOp, IntType, Slot, TExpr, TNode, ValueList, Var};
+use joint_ir::{BinaryOp, INT, IntType, Slot, TExpr, TNode, UNSIGNED, ValueList, Var};
 use joint_value::{Rows, Store, value};
 use sqlite_items::Boxed;
 use src_text::{Name, Place};
 use std::alloc::{AllocError, Global};
-
-const INT: IntType = IntType {
-    bits: 32,
-    signed: true,
-    truth: false,
-};
-
-const UNSIGNED: IntType = IntType {
-    bits: 32,
-    signed: false,
-    truth: false,
-};
 
 const HERE: Place = Place { line: 1, column: 1 };
 
