@@ -2,7 +2,7 @@
 //! questions that are asked of them.
 
 ghost use Rattle.std.specs.Prelude.{◌≡◌, ◌<◌, ◌≤◌, ◌-◌, ◌++◌, ◌∷◌, [], ℕ, true, false, length, take, slice_index_or, Option, MatchOption, IfOk, OnOk, OnErr};
-ghost use Rattle.clause_arena.specs.Clause.{lit, lit_eq, opposite, is_below, without};
+ghost use Rattle.clause_arena.specs.Clause.{has, lit, lit_eq, opposite, is_below, without};
 ghost use Rattle.clause_arena.specs.declared.ClauseId.{ClauseId};
 ghost use Rattle.res_log.specs.Partial.{is_free, is_false};
 ghost use Rattle.cdcl.specs.Trail.{IsConsistent, IsLastDecision, AreForcedFrom};
