@@ -140,6 +140,7 @@ pub fn put(stack: &mut Vec<Value>, value: Value) -> Result<(), AllocError>
     Ok(())
 }
 
+/// Takes the top value off the stack: the place, or `None` where it is something else or there is none.
 pub fn take_place(stack: &mut Vec<Value>) -> Option<Place>
     ensures { (go : Goes Place) → MatchOption result (with_place (reverse stack.old.items) go ≡ None) (λ x. with_place (reverse stack.old.items) go ≡ go x (reverse stack.new.items)) }
 {
@@ -150,6 +151,7 @@ pub fn take_place(stack: &mut Vec<Value>) -> Option<Place>
     }
 }
 
+/// Takes the top value off the stack: the name, or `None` where it is something else or there is none.
 pub fn take_name(stack: &mut Vec<Value>) -> Option<Identifier>
     ensures { (go : Goes Identifier) → MatchOption result (with_name (reverse stack.old.items) go ≡ None) (λ x. with_name (reverse stack.old.items) go ≡ go x (reverse stack.new.items)) }
 {
@@ -160,6 +162,7 @@ pub fn take_name(stack: &mut Vec<Value>) -> Option<Identifier>
     }
 }
 
+/// Takes the top value off the stack: the declared, or `None` where it is something else or there is none.
 pub fn take_declared(stack: &mut Vec<Value>) -> Option<Identifier>
     ensures { (go : Goes Identifier) → MatchOption result (with_declared (reverse stack.old.items) go ≡ None) (λ x. with_declared (reverse stack.old.items) go ≡ go x (reverse stack.new.items)) }
 {
@@ -170,6 +173,7 @@ pub fn take_declared(stack: &mut Vec<Value>) -> Option<Identifier>
     }
 }
 
+/// Takes the top value off the stack: the unary mark, or `None` where it is something else or there is none.
 pub fn take_unary_mark(stack: &mut Vec<Value>) -> Option<UnaryMark>
     ensures { (go : Goes UnaryMark) → MatchOption result (with_unary_mark (reverse stack.old.items) go ≡ None) (λ x. with_unary_mark (reverse stack.old.items) go ≡ go x (reverse stack.new.items)) }
 {
@@ -180,6 +184,7 @@ pub fn take_unary_mark(stack: &mut Vec<Value>) -> Option<UnaryMark>
     }
 }
 
+/// Takes the top value off the stack: the binary mark, or `None` where it is something else or there is none.
 pub fn take_binary_mark(stack: &mut Vec<Value>) -> Option<BinaryMark>
     ensures { (go : Goes BinaryMark) → MatchOption result (with_binary_mark (reverse stack.old.items) go ≡ None) (λ x. with_binary_mark (reverse stack.old.items) go ≡ go x (reverse stack.new.items)) }
 {
@@ -190,6 +195,7 @@ pub fn take_binary_mark(stack: &mut Vec<Value>) -> Option<BinaryMark>
     }
 }
 
+/// Takes the top value off the stack: the assignment mark, or `None` where it is something else or there is none.
 pub fn take_assignment_mark(stack: &mut Vec<Value>) -> Option<AssignmentMark>
     ensures { (go : Goes AssignmentMark) → MatchOption result (with_assignment_mark (reverse stack.old.items) go ≡ None) (λ x. with_assignment_mark (reverse stack.old.items) go ≡ go x (reverse stack.new.items)) }
 {
@@ -200,6 +206,7 @@ pub fn take_assignment_mark(stack: &mut Vec<Value>) -> Option<AssignmentMark>
     }
 }
 
+/// Takes the top value off the stack: the step mark, or `None` where it is something else or there is none.
 pub fn take_step_mark(stack: &mut Vec<Value>) -> Option<StepMark>
     ensures { (go : Goes StepMark) → MatchOption result (with_step_mark (reverse stack.old.items) go ≡ None) (λ x. with_step_mark (reverse stack.old.items) go ≡ go x (reverse stack.new.items)) }
 {
@@ -210,6 +217,7 @@ pub fn take_step_mark(stack: &mut Vec<Value>) -> Option<StepMark>
     }
 }
 
+/// Takes the top value off the stack: the sign, or `None` where it is something else or there is none.
 pub fn take_sign(stack: &mut Vec<Value>) -> Option<SignMark>
     ensures { (go : Goes SignMark) → MatchOption result (with_sign (reverse stack.old.items) go ≡ None) (λ x. with_sign (reverse stack.old.items) go ≡ go x (reverse stack.new.items)) }
 {
@@ -220,6 +228,7 @@ pub fn take_sign(stack: &mut Vec<Value>) -> Option<SignMark>
     }
 }
 
+/// Takes the top value off the stack: the type, or `None` where it is something else or there is none.
 pub fn take_type(stack: &mut Vec<Value>) -> Option<TypeName>
     ensures { (go : Goes TypeName) → MatchOption result (with_type (reverse stack.old.items) go ≡ None) (λ x. with_type (reverse stack.old.items) go ≡ go x (reverse stack.new.items)) }
 {
@@ -230,6 +239,7 @@ pub fn take_type(stack: &mut Vec<Value>) -> Option<TypeName>
     }
 }
 
+/// Takes the top value off the stack: the object, or `None` where it is something else or there is none.
 pub fn take_object(stack: &mut Vec<Value>) -> Option<Object>
     ensures { (go : Goes Object) → MatchOption result (with_object (reverse stack.old.items) go ≡ None) (λ x. with_object (reverse stack.old.items) go ≡ go x (reverse stack.new.items)) }
 {
@@ -240,6 +250,7 @@ pub fn take_object(stack: &mut Vec<Value>) -> Option<Object>
     }
 }
 
+/// Takes the top value off the stack: the path, or `None` where it is something else or there is none.
 pub fn take_path(stack: &mut Vec<Value>) -> Option<Path>
     ensures { (go : Goes Path) → MatchOption result (with_path (reverse stack.old.items) go ≡ None) (λ x. with_path (reverse stack.old.items) go ≡ go x (reverse stack.new.items)) }
 {
@@ -250,6 +261,7 @@ pub fn take_path(stack: &mut Vec<Value>) -> Option<Path>
     }
 }
 
+/// Takes the top value off the stack: the expression, or `None` where it is something else or there is none.
 pub fn take_expression(stack: &mut Vec<Value>) -> Option<Expression>
     ensures { (go : Goes Expression) → MatchOption result (with_expression (reverse stack.old.items) go ≡ None) (λ x. with_expression (reverse stack.old.items) go ≡ go x (reverse stack.new.items)) }
 {
@@ -260,6 +272,7 @@ pub fn take_expression(stack: &mut Vec<Value>) -> Option<Expression>
     }
 }
 
+/// Takes the top value off the stack: the expressions, or `None` where it is something else or there is none.
 pub fn take_expressions(stack: &mut Vec<Value>) -> Option<Items<Expression>>
     ensures { (go : Goes (List Expression)) → MatchOption result (with_expressions (reverse stack.old.items) go ≡ None) (λ x. with_expressions (reverse stack.old.items) go ≡ go x (reverse stack.new.items)) }
 {
@@ -270,6 +283,7 @@ pub fn take_expressions(stack: &mut Vec<Value>) -> Option<Items<Expression>>
     }
 }
 
+/// Takes the top value off the stack: the expression option, or `None` where it is something else or there is none.
 pub fn take_expression_option(stack: &mut Vec<Value>) -> Option<Option<Expression>>
     ensures { (go : Goes (Option Expression)) → MatchOption result (with_expression_option (reverse stack.old.items) go ≡ None) (λ x. with_expression_option (reverse stack.old.items) go ≡ go x (reverse stack.new.items)) }
 {
@@ -280,6 +294,7 @@ pub fn take_expression_option(stack: &mut Vec<Value>) -> Option<Option<Expressio
     }
 }
 
+/// Takes the top value off the stack: the initializer, or `None` where it is something else or there is none.
 pub fn take_initializer(stack: &mut Vec<Value>) -> Option<Initializer>
     ensures { (go : Goes Initializer) → MatchOption result (with_initializer (reverse stack.old.items) go ≡ None) (λ x. with_initializer (reverse stack.old.items) go ≡ go x (reverse stack.new.items)) }
 {
@@ -290,6 +305,7 @@ pub fn take_initializer(stack: &mut Vec<Value>) -> Option<Initializer>
     }
 }
 
+/// Takes the top value off the stack: the initializer option, or `None` where it is something else or there is none.
 pub fn take_initializer_option(stack: &mut Vec<Value>) -> Option<Option<Initializer>>
     ensures { (go : Goes (Option Initializer)) → MatchOption result (with_initializer_option (reverse stack.old.items) go ≡ None) (λ x. with_initializer_option (reverse stack.old.items) go ≡ go x (reverse stack.new.items)) }
 {
@@ -300,6 +316,7 @@ pub fn take_initializer_option(stack: &mut Vec<Value>) -> Option<Option<Initiali
     }
 }
 
+/// Takes the top value off the stack: the declarator, or `None` where it is something else or there is none.
 pub fn take_declarator(stack: &mut Vec<Value>) -> Option<Declarator>
     ensures { (go : Goes Declarator) → MatchOption result (with_declarator (reverse stack.old.items) go ≡ None) (λ x. with_declarator (reverse stack.old.items) go ≡ go x (reverse stack.new.items)) }
 {
@@ -310,6 +327,7 @@ pub fn take_declarator(stack: &mut Vec<Value>) -> Option<Declarator>
     }
 }
 
+/// Takes the top value off the stack: the declarators, or `None` where it is something else or there is none.
 pub fn take_declarators(stack: &mut Vec<Value>) -> Option<Items<Declarator>>
     ensures { (go : Goes (List Declarator)) → MatchOption result (with_declarators (reverse stack.old.items) go ≡ None) (λ x. with_declarators (reverse stack.old.items) go ≡ go x (reverse stack.new.items)) }
 {
@@ -320,6 +338,7 @@ pub fn take_declarators(stack: &mut Vec<Value>) -> Option<Items<Declarator>>
     }
 }
 
+/// Takes the top value off the stack: the local, or `None` where it is something else or there is none.
 pub fn take_local(stack: &mut Vec<Value>) -> Option<Local>
     ensures { (go : Goes Local) → MatchOption result (with_local (reverse stack.old.items) go ≡ None) (λ x. with_local (reverse stack.old.items) go ≡ go x (reverse stack.new.items)) }
 {
@@ -330,6 +349,7 @@ pub fn take_local(stack: &mut Vec<Value>) -> Option<Local>
     }
 }
 
+/// Takes the top value off the stack: the simple, or `None` where it is something else or there is none.
 pub fn take_simple(stack: &mut Vec<Value>) -> Option<Simple>
     ensures { (go : Goes Simple) → MatchOption result (with_simple (reverse stack.old.items) go ≡ None) (λ x. with_simple (reverse stack.old.items) go ≡ go x (reverse stack.new.items)) }
 {
@@ -340,6 +360,7 @@ pub fn take_simple(stack: &mut Vec<Value>) -> Option<Simple>
     }
 }
 
+/// Takes the top value off the stack: the simple option, or `None` where it is something else or there is none.
 pub fn take_simple_option(stack: &mut Vec<Value>) -> Option<Option<Simple>>
     ensures { (go : Goes (Option Simple)) → MatchOption result (with_simple_option (reverse stack.old.items) go ≡ None) (λ x. with_simple_option (reverse stack.old.items) go ≡ go x (reverse stack.new.items)) }
 {
@@ -350,6 +371,7 @@ pub fn take_simple_option(stack: &mut Vec<Value>) -> Option<Option<Simple>>
     }
 }
 
+/// Takes the top value off the stack: the for first, or `None` where it is something else or there is none.
 pub fn take_for_first(stack: &mut Vec<Value>) -> Option<ForFirst>
     ensures { (go : Goes ForFirst) → MatchOption result (with_for_first (reverse stack.old.items) go ≡ None) (λ x. with_for_first (reverse stack.old.items) go ≡ go x (reverse stack.new.items)) }
 {
@@ -360,6 +382,7 @@ pub fn take_for_first(stack: &mut Vec<Value>) -> Option<ForFirst>
     }
 }
 
+/// Takes the top value off the stack: the label, or `None` where it is something else or there is none.
 pub fn take_label(stack: &mut Vec<Value>) -> Option<Label>
     ensures { (go : Goes Label) → MatchOption result (with_label (reverse stack.old.items) go ≡ None) (λ x. with_label (reverse stack.old.items) go ≡ go x (reverse stack.new.items)) }
 {
@@ -370,6 +393,7 @@ pub fn take_label(stack: &mut Vec<Value>) -> Option<Label>
     }
 }
 
+/// Takes the top value off the stack: the labels, or `None` where it is something else or there is none.
 pub fn take_labels(stack: &mut Vec<Value>) -> Option<Labels>
     ensures { (go : Goes Labels) → MatchOption result (with_labels (reverse stack.old.items) go ≡ None) (λ x. with_labels (reverse stack.old.items) go ≡ go x (reverse stack.new.items)) }
 {
@@ -380,6 +404,7 @@ pub fn take_labels(stack: &mut Vec<Value>) -> Option<Labels>
     }
 }
 
+/// Takes the top value off the stack: the labelled, or `None` where it is something else or there is none.
 pub fn take_labelled(stack: &mut Vec<Value>) -> Option<Group>
     ensures { (go : Goes Group) → MatchOption result (with_labelled (reverse stack.old.items) go ≡ None) (λ x. with_labelled (reverse stack.old.items) go ≡ go x (reverse stack.new.items)) }
 {
@@ -390,6 +415,7 @@ pub fn take_labelled(stack: &mut Vec<Value>) -> Option<Group>
     }
 }
 
+/// Takes the top value off the stack: the group, or `None` where it is something else or there is none.
 pub fn take_group(stack: &mut Vec<Value>) -> Option<Group>
     ensures { (go : Goes Group) → MatchOption result (with_group (reverse stack.old.items) go ≡ None) (λ x. with_group (reverse stack.old.items) go ≡ go x (reverse stack.new.items)) }
 {
@@ -400,6 +426,7 @@ pub fn take_group(stack: &mut Vec<Value>) -> Option<Group>
     }
 }
 
+/// Takes the top value off the stack: the groups, or `None` where it is something else or there is none.
 pub fn take_groups(stack: &mut Vec<Value>) -> Option<Items<Group>>
     ensures { (go : Goes (List Group)) → MatchOption result (with_groups (reverse stack.old.items) go ≡ None) (λ x. with_groups (reverse stack.old.items) go ≡ go x (reverse stack.new.items)) }
 {
@@ -410,6 +437,7 @@ pub fn take_groups(stack: &mut Vec<Value>) -> Option<Items<Group>>
     }
 }
 
+/// Takes the top value off the stack: the statement, or `None` where it is something else or there is none.
 pub fn take_statement(stack: &mut Vec<Value>) -> Option<Statement>
     ensures { (go : Goes Statement) → MatchOption result (with_statement (reverse stack.old.items) go ≡ None) (λ x. with_statement (reverse stack.old.items) go ≡ go x (reverse stack.new.items)) }
 {
@@ -420,6 +448,7 @@ pub fn take_statement(stack: &mut Vec<Value>) -> Option<Statement>
     }
 }
 
+/// Takes the top value off the stack: the parts, or `None` where it is something else or there is none.
 pub fn take_parts(stack: &mut Vec<Value>) -> Option<Items<BlockItem>>
     ensures { (go : Goes (List BlockItem)) → MatchOption result (with_parts (reverse stack.old.items) go ≡ None) (λ x. with_parts (reverse stack.old.items) go ≡ go x (reverse stack.new.items)) }
 {
@@ -430,6 +459,7 @@ pub fn take_parts(stack: &mut Vec<Value>) -> Option<Items<BlockItem>>
     }
 }
 
+/// Takes the top value off the stack: the block, or `None` where it is something else or there is none.
 pub fn take_block(stack: &mut Vec<Value>) -> Option<Block>
     ensures { (go : Goes Block) → MatchOption result (with_block (reverse stack.old.items) go ≡ None) (λ x. with_block (reverse stack.old.items) go ≡ go x (reverse stack.new.items)) }
 {
@@ -440,6 +470,7 @@ pub fn take_block(stack: &mut Vec<Value>) -> Option<Block>
     }
 }
 
+/// Takes the top value off the stack: the item, or `None` where it is something else or there is none.
 pub fn take_item(stack: &mut Vec<Value>) -> Option<MemberDeclarator>
     ensures { (go : Goes MemberDeclarator) → MatchOption result (with_item (reverse stack.old.items) go ≡ None) (λ x. with_item (reverse stack.old.items) go ≡ go x (reverse stack.new.items)) }
 {
@@ -450,6 +481,7 @@ pub fn take_item(stack: &mut Vec<Value>) -> Option<MemberDeclarator>
     }
 }
 
+/// Takes the top value off the stack: the items, or `None` where it is something else or there is none.
 pub fn take_items(stack: &mut Vec<Value>) -> Option<Items<MemberDeclarator>>
     ensures { (go : Goes (List MemberDeclarator)) → MatchOption result (with_items (reverse stack.old.items) go ≡ None) (λ x. with_items (reverse stack.old.items) go ≡ go x (reverse stack.new.items)) }
 {
@@ -460,6 +492,7 @@ pub fn take_items(stack: &mut Vec<Value>) -> Option<Items<MemberDeclarator>>
     }
 }
 
+/// Takes the top value off the stack: the names, or `None` where it is something else or there is none.
 pub fn take_names(stack: &mut Vec<Value>) -> Option<Items<Identifier>>
     ensures { (go : Goes (List Identifier)) → MatchOption result (with_names (reverse stack.old.items) go ≡ None) (λ x. with_names (reverse stack.old.items) go ≡ go x (reverse stack.new.items)) }
 {
@@ -470,6 +503,7 @@ pub fn take_names(stack: &mut Vec<Value>) -> Option<Items<Identifier>>
     }
 }
 
+/// Takes the top value off the stack: the member, or `None` where it is something else or there is none.
 pub fn take_member(stack: &mut Vec<Value>) -> Option<Member>
     ensures { (go : Goes Member) → MatchOption result (with_member (reverse stack.old.items) go ≡ None) (λ x. with_member (reverse stack.old.items) go ≡ go x (reverse stack.new.items)) }
 {
@@ -480,6 +514,7 @@ pub fn take_member(stack: &mut Vec<Value>) -> Option<Member>
     }
 }
 
+/// Takes the top value off the stack: the members, or `None` where it is something else or there is none.
 pub fn take_members(stack: &mut Vec<Value>) -> Option<Items<Member>>
     ensures { (go : Goes (List Member)) → MatchOption result (with_members (reverse stack.old.items) go ≡ None) (λ x. with_members (reverse stack.old.items) go ≡ go x (reverse stack.new.items)) }
 {
@@ -490,6 +525,7 @@ pub fn take_members(stack: &mut Vec<Value>) -> Option<Items<Member>>
     }
 }
 
+/// Takes the top value off the stack: the name option, or `None` where it is something else or there is none.
 pub fn take_name_option(stack: &mut Vec<Value>) -> Option<Option<Identifier>>
     ensures { (go : Goes (Option Identifier)) → MatchOption result (with_name_option (reverse stack.old.items) go ≡ None) (λ x. with_name_option (reverse stack.old.items) go ≡ go x (reverse stack.new.items)) }
 {
@@ -500,6 +536,7 @@ pub fn take_name_option(stack: &mut Vec<Value>) -> Option<Option<Identifier>>
     }
 }
 
+/// Takes the top value off the stack: the parameter, or `None` where it is something else or there is none.
 pub fn take_parameter(stack: &mut Vec<Value>) -> Option<Parameter>
     ensures { (go : Goes Parameter) → MatchOption result (with_parameter (reverse stack.old.items) go ≡ None) (λ x. with_parameter (reverse stack.old.items) go ≡ go x (reverse stack.new.items)) }
 {
@@ -510,6 +547,7 @@ pub fn take_parameter(stack: &mut Vec<Value>) -> Option<Parameter>
     }
 }
 
+/// Takes the top value off the stack: the parameters, or `None` where it is something else or there is none.
 pub fn take_parameters(stack: &mut Vec<Value>) -> Option<Items<Parameter>>
     ensures { (go : Goes (List Parameter)) → MatchOption result (with_parameters (reverse stack.old.items) go ≡ None) (λ x. with_parameters (reverse stack.old.items) go ≡ go x (reverse stack.new.items)) }
 {
@@ -520,6 +558,7 @@ pub fn take_parameters(stack: &mut Vec<Value>) -> Option<Items<Parameter>>
     }
 }
 
+/// Takes the top value off the stack: the storage, or `None` where it is something else or there is none.
 pub fn take_storage(stack: &mut Vec<Value>) -> Option<Storage>
     ensures { (go : Goes Storage) → MatchOption result (with_storage (reverse stack.old.items) go ≡ None) (λ x. with_storage (reverse stack.old.items) go ≡ go x (reverse stack.new.items)) }
 {
@@ -530,6 +569,7 @@ pub fn take_storage(stack: &mut Vec<Value>) -> Option<Storage>
     }
 }
 
+/// Takes the top value off the stack: the function, or `None` where it is something else or there is none.
 pub fn take_function(stack: &mut Vec<Value>) -> Option<FunctionName>
     ensures { (go : Goes FunctionName) → MatchOption result (with_function (reverse stack.old.items) go ≡ None) (λ x. with_function (reverse stack.old.items) go ≡ go x (reverse stack.new.items)) }
 {
@@ -540,6 +580,7 @@ pub fn take_function(stack: &mut Vec<Value>) -> Option<FunctionName>
     }
 }
 
+/// Takes the top value off the stack: the external, or `None` where it is something else or there is none.
 pub fn take_external(stack: &mut Vec<Value>) -> Option<External>
     ensures { (go : Goes External) → MatchOption result (with_external (reverse stack.old.items) go ≡ None) (λ x. with_external (reverse stack.old.items) go ≡ go x (reverse stack.new.items)) }
 {
@@ -550,6 +591,7 @@ pub fn take_external(stack: &mut Vec<Value>) -> Option<External>
     }
 }
 
+/// Takes the top value off the stack: the externals, or `None` where it is something else or there is none.
 pub fn take_externals(stack: &mut Vec<Value>) -> Option<Items<External>>
     ensures { (go : Goes (List External)) → MatchOption result (with_externals (reverse stack.old.items) go ≡ None) (λ x. with_externals (reverse stack.old.items) go ≡ go x (reverse stack.new.items)) }
 {
@@ -560,6 +602,7 @@ pub fn take_externals(stack: &mut Vec<Value>) -> Option<Items<External>>
     }
 }
 
+/// Takes the top value off the stack: the tree, or `None` where it is something else or there is none.
 pub fn take_tree(stack: &mut Vec<Value>) -> Option<CTree>
     ensures { (go : Goes CTree) → MatchOption result (with_tree (reverse stack.old.items) go ≡ None) (λ x. with_tree (reverse stack.old.items) go ≡ go x (reverse stack.new.items)) }
 {

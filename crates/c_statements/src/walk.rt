@@ -472,6 +472,7 @@ impl Typer {
         Ok(())
     }
 
+    /// Leaves a block: what was declared in it is known no more.
     pub fn leave(&mut self)
         requires { 1 < length self.old.scopes }
         ensures { Goes self.old self.new [] (leave_scope (known_of self.old)) }

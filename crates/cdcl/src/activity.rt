@@ -30,6 +30,7 @@ pub struct ActivityChooser {
 }
 
 impl ActivityChooser {
+    /// A chooser that has heard of no variable yet.
     pub fn new(alloc: Global) -> ActivityChooser {
         ActivityChooser {
             activities: Vec::new(alloc),

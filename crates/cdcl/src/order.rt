@@ -16,6 +16,7 @@ pub struct OrderChooser {
 }
 
 impl OrderChooser {
+    /// A chooser that begins with the first variable.
     pub fn new(_alloc: Global) -> OrderChooser {
         OrderChooser { vars: 0 }
     }

@@ -23,6 +23,7 @@ pub struct Pace {
 }
 
 impl Pace {
+    /// The pace before any conflict.
     pub fn new() -> Pace {
         Pace {
             left: UNIT,

@@ -14,8 +14,10 @@ use std::alloc::{AllocError, Global};
 /// The values of a variable.
 pub const FREE: u8 = 0;
 
+/// The value of a variable that is 1.
 pub const TRUE: u8 = 1;
 
+/// The value of a variable that is 0.
 pub const FALSE: u8 = 2;
 
 /// The other literal of the same variable.
@@ -28,6 +30,7 @@ pub fn negated(l: Lit) -> Lit
     }
 }
 
+/// Whether two literals are one.
 pub fn is_same_lit(left: Lit, right: Lit) -> bool
     ensures { result ≡ lit_eq left right }
 {
@@ -41,6 +44,7 @@ pub fn value_of(l: Lit) -> u8
     if l.negative { FALSE } else { TRUE }
 }
 
+/// The literals that are true, in the order in which they became so, and why.
 #[derive(Drop)]
 pub struct Trail {
     /// The literals that are true, the oldest first.

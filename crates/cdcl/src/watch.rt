@@ -73,6 +73,7 @@ impl Watches {
         self.head
     }
 
+    /// Notes that the literals before this place of the trail are propagated.
     pub fn set_head(&mut self, head: usize)
         ensures head { self.new.head ≡ head }
         ensures lists { self.new.lists ≡ self.old.lists }

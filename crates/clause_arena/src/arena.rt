@@ -103,6 +103,7 @@ impl Model for ClauseArena {
 }
 
 impl ClauseArena {
+    /// An arena without clauses.
     pub fn new(alloc: Global) -> ClauseArena
         ensures { result.clauses ≡ [] }
     {

@@ -39,6 +39,7 @@ pub struct Gate {
     pub right: Edge,
 }
 
+/// A node of a net: the constant 1, an input, or the conjunction of two edges.
 #[derive(Clone, Copy, PartialEq, Eq, Debug)]
 pub enum Node {
     /// The constant 1.

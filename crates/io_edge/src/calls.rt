@@ -15,6 +15,7 @@ pub struct Calls {
 }
 
 impl Calls {
+    /// No call noted yet.
     pub fn new(alloc: Global) -> Calls
         ensures made { result.made ≡ 0 }
         ensures none { result.failing.items ≡ [] }

@@ -15,6 +15,7 @@ pub struct ReadFaults {
 }
 
 impl ReadFaults {
+    /// No fault met yet.
     pub fn new() -> ReadFaults
         ensures { (result.total ≡ 0) × (result.since_start ≡ 0) }
     {

@@ -73,6 +73,7 @@ pub struct RealSink<W: Write> {
 }
 
 impl<W: Write + Drop> RealSink<W> {
+    /// A sink over a stream of the system.
     pub fn new(stream: W) -> RealSink<W>
         ensures no_fault { result.faults ≡ 0 }
     {

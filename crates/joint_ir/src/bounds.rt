@@ -14,6 +14,7 @@ pub struct Limit {
     pub count: u32,
 }
 
+/// Limits of single loops and functions.
 pub type LimitList = Items<Limit>;
 
 /// How far a run goes.

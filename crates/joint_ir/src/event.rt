@@ -25,6 +25,7 @@ pub struct Shown {
     pub value: u64,
 }
 
+/// Values as an event shows them, in order.
 pub type ShownList = Items<Shown>;
 
 /// What is seen of a run.
@@ -40,6 +41,7 @@ pub enum Event {
     Broke(PropId),
 }
 
+/// Events, in the order in which they happened.
 pub type EventList = Items<Event>;
 
 /// The numbers that a run draws from, in order. A draw of w bits takes a choice modulo 2^w.

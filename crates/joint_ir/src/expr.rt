@@ -81,4 +81,5 @@ pub enum TNode {
     Convert(Boxed<TExpr>),
 }
 
+/// Expressions, in text order.
 pub type TExprList = Items<TExpr>;

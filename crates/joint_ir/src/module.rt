@@ -33,8 +33,10 @@ pub struct Signal {
     pub role: Role,
 }
 
+/// Signals, in flat order.
 pub type SignalList = Items<Signal>;
 
+/// For each register its first value, or none where any value may stand there.
 pub type FirstList = Items<Option<u64>>;
 
 /// An unknown word of 1 to 64 bits: what a division by zero or a read out of range gives.
@@ -43,6 +45,7 @@ pub struct Site {
     pub bits: u8,
 }
 
+/// The places at which unknown words are drawn, in the order of the draws.
 pub type SiteList = Items<Site>;
 
 /// A module with its instances made flat. Flat order is: the top's ports in the order of its header, its other signals

@@ -19,6 +19,7 @@ pub struct NamedLimit {
     pub count: u32,
 }
 
+/// Limits by the names of properties.
 pub type NamedLimitList = Items<NamedLimit>;
 
 /// The word for a kind of property.

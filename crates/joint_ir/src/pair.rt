@@ -11,6 +11,7 @@ pub struct Link {
     pub signal: u32,
 }
 
+/// Which signal each member of the mirror is bound to.
 pub type LinkList = Items<Link>;
 
 /// What binds a program's mirror to a module.

@@ -41,8 +41,10 @@ pub struct Prop {
     pub line: u32,
 }
 
+/// Properties, by their numbers.
 pub type PropList = Items<Prop>;
 
+/// Values of the elements of an object.
 pub type ValueList = Items<i128>;
 
 /// An object, or a parameter.
@@ -58,6 +60,7 @@ pub struct Var {
     pub constant: bool,
 }
 
+/// Objects, by their numbers.
 pub type VarList = Items<Var>;
 
 /// A function. Without a body it gives any value of its result's type.
@@ -73,6 +76,7 @@ pub struct Function {
     pub body: Option<TStmt>,
 }
 
+/// Functions, by their numbers.
 pub type FunctionList = Items<Function>;
 
 /// A member of the mirror.
@@ -87,6 +91,7 @@ pub struct Member {
     pub length: u32,
 }
 
+/// Members of the mirror, depth-first.
 pub type MemberList = Items<Member>;
 
 /// The struct whose members mirror the signals of the top module.

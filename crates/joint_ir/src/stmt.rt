@@ -110,8 +110,11 @@ pub struct Group {
     pub body: TStmtList,
 }
 
+/// Statements, in text order.
 pub type TStmtList = Items<TStmt>;
 
+/// The labels of a group of a `switch`.
 pub type LabelList = Items<Label>;
 
+/// The groups of a `switch`, in text order.
 pub type GroupList = Items<Group>;

@@ -81,6 +81,7 @@ impl Log {
         self.entries.len() as u64
     }
 
+    /// Whether the log has no step.
     pub fn is_empty(&self) -> bool
         ensures { IsTrue result ↔ (self.now ≡ []) }
     {

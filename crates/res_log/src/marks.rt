@@ -38,6 +38,7 @@ impl Model for MarkedClause {
 }
 
 impl MarkedClause {
+    /// An empty clause, with no mark set.
     pub fn new(alloc: Global) -> MarkedClause
         ensures { IsBlank result }
     {

@@ -48,6 +48,7 @@ impl Model for Seen {
 }
 
 impl Seen {
+    /// No clause seen yet.
     pub fn new(alloc: Global) -> Seen
         ensures { result ≡ [] }
     {

@@ -14,6 +14,7 @@ use src_text::{Name, Place};
 use std::alloc::Global;
 use word_eqs::Terms;
 
+/// The place of everything in these programs.
 pub const HERE: Place = Place { line: 1, column: 1 };
 
 /// A list of one item.
@@ -34,6 +35,7 @@ pub fn two<T: Drop>(alloc: Global, first: T, second: T) -> Result<Items<T>>
     Ok(items)
 }
 
+/// A statement.
 pub fn stmt(node: SNode) -> TStmt
     ensures { result ≡ stmt_of node }
 {
@@ -79,6 +81,7 @@ pub fn no_module(alloc: Global) -> Result<FlatModule>
     })
 }
 
+/// A property of a function.
 pub fn property(alloc: Global, function: &str, kind: PropKind) -> Result<Prop>
     ensures { IfOk result (λ p. p ≡ property_of function.now kind) }
 {

@@ -9,31 +9,37 @@ use clause_arena::{ClauseArena, ClauseId, Lit, has_lit};
 use res_log::{ChainStep, Log};
 use std::alloc::AllocError;
 
+/// The first variable.
 pub const A: Lit = Lit {
     var: 0,
     negative: false,
 };
 
+/// The second variable.
 pub const B: Lit = Lit {
     var: 1,
     negative: false,
 };
 
+/// The third variable.
 pub const C: Lit = Lit {
     var: 2,
     negative: false,
 };
 
+/// The first variable is 0.
 pub const NOT_A: Lit = Lit {
     var: 0,
     negative: true,
 };
 
+/// The second variable is 0.
 pub const NOT_B: Lit = Lit {
     var: 1,
     negative: true,
 };
 
+/// The third variable is 0.
 pub const NOT_C: Lit = Lit {
     var: 2,
     negative: true,

@@ -15,6 +15,7 @@ pub struct Always {
 }
 
 impl Always {
+    /// A chooser that always answers this number.
     pub fn new(pick: u32) -> Always {
         Always { vars: 0, pick }
     }
@@ -43,6 +44,7 @@ pub struct Downwards {
 }
 
 impl Downwards {
+    /// A chooser that begins with the greatest number.
     pub fn new() -> Downwards {
         Downwards {
             vars: 0,
@@ -76,6 +78,7 @@ pub struct Recording {
 }
 
 impl Recording {
+    /// A recorder of what was asked.
     pub fn new() -> Recording {
         Recording { vars: 0, asked: 0 }
     }

@@ -34,6 +34,7 @@ impl Name {
         })
     }
 
+    /// The name as text.
     pub fn text(&self) -> &str
         ensures { result.now ≡ self.now }
     {

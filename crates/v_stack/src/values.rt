@@ -140,6 +140,7 @@ pub fn put(stack: &mut Vec<Value>, value: Value) -> Result<(), AllocError>
     Ok(())
 }
 
+/// Takes the top value off the stack: the place, or `None` where it is something else or there is none.
 pub fn take_place(stack: &mut Vec<Value>) -> Option<Place>
     ensures { (go : Goes Place) → MatchOption result (with_place (reverse stack.old.items) go ≡ None) (λ x. with_place (reverse stack.old.items) go ≡ go x (reverse stack.new.items)) }
 {
@@ -150,6 +151,7 @@ pub fn take_place(stack: &mut Vec<Value>) -> Option<Place>
     }
 }
 
+/// Takes the top value off the stack: the name, or `None` where it is something else or there is none.
 pub fn take_name(stack: &mut Vec<Value>) -> Option<Identifier>
     ensures { (go : Goes Identifier) → MatchOption result (with_name (reverse stack.old.items) go ≡ None) (λ x. with_name (reverse stack.old.items) go ≡ go x (reverse stack.new.items)) }
 {
@@ -160,6 +162,7 @@ pub fn take_name(stack: &mut Vec<Value>) -> Option<Identifier>
     }
 }
 
+/// Takes the top value off the stack: the declared, or `None` where it is something else or there is none.
 pub fn take_declared(stack: &mut Vec<Value>) -> Option<Identifier>
     ensures { (go : Goes Identifier) → MatchOption result (with_declared (reverse stack.old.items) go ≡ None) (λ x. with_declared (reverse stack.old.items) go ≡ go x (reverse stack.new.items)) }
 {
@@ -170,6 +173,7 @@ pub fn take_declared(stack: &mut Vec<Value>) -> Option<Identifier>
     }
 }
 
+/// Takes the top value off the stack: the unary operator, or `None` where it is something else or there is none.
 pub fn take_unary_operator(stack: &mut Vec<Value>) -> Option<UnaryOperator>
     ensures { (go : Goes UnaryOperator) → MatchOption result (with_unary_operator (reverse stack.old.items) go ≡ None) (λ x. with_unary_operator (reverse stack.old.items) go ≡ go x (reverse stack.new.items)) }
 {
@@ -180,6 +184,7 @@ pub fn take_unary_operator(stack: &mut Vec<Value>) -> Option<UnaryOperator>
     }
 }
 
+/// Takes the top value off the stack: the binary operator, or `None` where it is something else or there is none.
 pub fn take_binary_operator(stack: &mut Vec<Value>) -> Option<BinaryOperator>
     ensures { (go : Goes BinaryOperator) → MatchOption result (with_binary_operator (reverse stack.old.items) go ≡ None) (λ x. with_binary_operator (reverse stack.old.items) go ≡ go x (reverse stack.new.items)) }
 {
@@ -190,6 +195,7 @@ pub fn take_binary_operator(stack: &mut Vec<Value>) -> Option<BinaryOperator>
     }
 }
 
+/// Takes the top value off the stack: the decimal, or `None` where it is something else or there is none.
 pub fn take_decimal(stack: &mut Vec<Value>) -> Option<DecimalNumber>
     ensures { (go : Goes DecimalNumber) → MatchOption result (with_decimal (reverse stack.old.items) go ≡ None) (λ x. with_decimal (reverse stack.old.items) go ≡ go x (reverse stack.new.items)) }
 {
@@ -200,6 +206,7 @@ pub fn take_decimal(stack: &mut Vec<Value>) -> Option<DecimalNumber>
     }
 }
 
+/// Takes the top value off the stack: the based, or `None` where it is something else or there is none.
 pub fn take_based(stack: &mut Vec<Value>) -> Option<BasedNumber>
     ensures { (go : Goes BasedNumber) → MatchOption result (with_based (reverse stack.old.items) go ≡ None) (λ x. with_based (reverse stack.old.items) go ≡ go x (reverse stack.new.items)) }
 {
@@ -210,6 +217,7 @@ pub fn take_based(stack: &mut Vec<Value>) -> Option<BasedNumber>
     }
 }
 
+/// Takes the top value off the stack: the direction, or `None` where it is something else or there is none.
 pub fn take_direction(stack: &mut Vec<Value>) -> Option<Direction>
     ensures { (go : Goes Direction) → MatchOption result (with_direction (reverse stack.old.items) go ≡ None) (λ x. with_direction (reverse stack.old.items) go ≡ go x (reverse stack.new.items)) }
 {
@@ -220,6 +228,7 @@ pub fn take_direction(stack: &mut Vec<Value>) -> Option<Direction>
     }
 }
 
+/// Takes the top value off the stack: the expr, or `None` where it is something else or there is none.
 pub fn take_expr(stack: &mut Vec<Value>) -> Option<Expr>
     ensures { (go : Goes Expr) → MatchOption result (with_expr (reverse stack.old.items) go ≡ None) (λ x. with_expr (reverse stack.old.items) go ≡ go x (reverse stack.new.items)) }
 {
@@ -230,6 +239,7 @@ pub fn take_expr(stack: &mut Vec<Value>) -> Option<Expr>
     }
 }
 
+/// Takes the top value off the stack: the exprs, or `None` where it is something else or there is none.
 pub fn take_exprs(stack: &mut Vec<Value>) -> Option<Items<Expr>>
     ensures { (go : Goes (List Expr)) → MatchOption result (with_exprs (reverse stack.old.items) go ≡ None) (λ x. with_exprs (reverse stack.old.items) go ≡ go x (reverse stack.new.items)) }
 {
@@ -240,6 +250,7 @@ pub fn take_exprs(stack: &mut Vec<Value>) -> Option<Items<Expr>>
     }
 }
 
+/// Takes the top value off the stack: the expr option, or `None` where it is something else or there is none.
 pub fn take_expr_option(stack: &mut Vec<Value>) -> Option<Option<Expr>>
     ensures { (go : Goes (Option Expr)) → MatchOption result (with_expr_option (reverse stack.old.items) go ≡ None) (λ x. with_expr_option (reverse stack.old.items) go ≡ go x (reverse stack.new.items)) }
 {
@@ -250,6 +261,7 @@ pub fn take_expr_option(stack: &mut Vec<Value>) -> Option<Option<Expr>>
     }
 }
 
+/// Takes the top value off the stack: the selection, or `None` where it is something else or there is none.
 pub fn take_selection(stack: &mut Vec<Value>) -> Option<Selection>
     ensures { (go : Goes Selection) → MatchOption result (with_selection (reverse stack.old.items) go ≡ None) (λ x. with_selection (reverse stack.old.items) go ≡ go x (reverse stack.new.items)) }
 {
@@ -260,6 +272,7 @@ pub fn take_selection(stack: &mut Vec<Value>) -> Option<Selection>
     }
 }
 
+/// Takes the top value off the stack: the range, or `None` where it is something else or there is none.
 pub fn take_range(stack: &mut Vec<Value>) -> Option<Range>
     ensures { (go : Goes Range) → MatchOption result (with_range (reverse stack.old.items) go ≡ None) (λ x. with_range (reverse stack.old.items) go ≡ go x (reverse stack.new.items)) }
 {
@@ -270,6 +283,7 @@ pub fn take_range(stack: &mut Vec<Value>) -> Option<Range>
     }
 }
 
+/// Takes the top value off the stack: the range option, or `None` where it is something else or there is none.
 pub fn take_range_option(stack: &mut Vec<Value>) -> Option<Option<Range>>
     ensures { (go : Goes (Option Range)) → MatchOption result (with_range_option (reverse stack.old.items) go ≡ None) (λ x. with_range_option (reverse stack.old.items) go ≡ go x (reverse stack.new.items)) }
 {
@@ -280,6 +294,7 @@ pub fn take_range_option(stack: &mut Vec<Value>) -> Option<Option<Range>>
     }
 }
 
+/// Takes the top value off the stack: the target, or `None` where it is something else or there is none.
 pub fn take_target(stack: &mut Vec<Value>) -> Option<Target>
     ensures { (go : Goes Target) → MatchOption result (with_target (reverse stack.old.items) go ≡ None) (λ x. with_target (reverse stack.old.items) go ≡ go x (reverse stack.new.items)) }
 {
@@ -290,6 +305,7 @@ pub fn take_target(stack: &mut Vec<Value>) -> Option<Target>
     }
 }
 
+/// Takes the top value off the stack: the targets, or `None` where it is something else or there is none.
 pub fn take_targets(stack: &mut Vec<Value>) -> Option<Items<Target>>
     ensures { (go : Goes (List Target)) → MatchOption result (with_targets (reverse stack.old.items) go ≡ None) (λ x. with_targets (reverse stack.old.items) go ≡ go x (reverse stack.new.items)) }
 {
@@ -300,6 +316,7 @@ pub fn take_targets(stack: &mut Vec<Value>) -> Option<Items<Target>>
     }
 }
 
+/// Takes the top value off the stack: the assignment kind, or `None` where it is something else or there is none.
 pub fn take_assignment_kind(stack: &mut Vec<Value>) -> Option<AssignmentKind>
     ensures { (go : Goes AssignmentKind) → MatchOption result (with_assignment_kind (reverse stack.old.items) go ≡ None) (λ x. with_assignment_kind (reverse stack.old.items) go ≡ go x (reverse stack.new.items)) }
 {
@@ -315,6 +332,7 @@ pub fn take_assignment_kind(stack: &mut Vec<Value>) -> Option<AssignmentKind>
     }
 }
 
+/// Takes the top value off the stack: the label, or `None` where it is something else or there is none.
 pub fn take_label(stack: &mut Vec<Value>) -> Option<Option<Identifier>>
     ensures { (go : Goes (Option Identifier)) → MatchOption result (with_label (reverse stack.old.items) go ≡ None) (λ x. with_label (reverse stack.old.items) go ≡ go x (reverse stack.new.items)) }
 {
@@ -325,6 +343,7 @@ pub fn take_label(stack: &mut Vec<Value>) -> Option<Option<Identifier>>
     }
 }
 
+/// Takes the top value off the stack: the stmt, or `None` where it is something else or there is none.
 pub fn take_stmt(stack: &mut Vec<Value>) -> Option<Stmt>
     ensures { (go : Goes Stmt) → MatchOption result (with_stmt (reverse stack.old.items) go ≡ None) (λ x. with_stmt (reverse stack.old.items) go ≡ go x (reverse stack.new.items)) }
 {
@@ -335,6 +354,7 @@ pub fn take_stmt(stack: &mut Vec<Value>) -> Option<Stmt>
     }
 }
 
+/// Takes the top value off the stack: the stmts, or `None` where it is something else or there is none.
 pub fn take_stmts(stack: &mut Vec<Value>) -> Option<Items<Stmt>>
     ensures { (go : Goes (List Stmt)) → MatchOption result (with_stmts (reverse stack.old.items) go ≡ None) (λ x. with_stmts (reverse stack.old.items) go ≡ go x (reverse stack.new.items)) }
 {
@@ -345,6 +365,7 @@ pub fn take_stmts(stack: &mut Vec<Value>) -> Option<Items<Stmt>>
     }
 }
 
+/// Takes the top value off the stack: the case item, or `None` where it is something else or there is none.
 pub fn take_case_item(stack: &mut Vec<Value>) -> Option<CaseItem>
     ensures { (go : Goes CaseItem) → MatchOption result (with_case_item (reverse stack.old.items) go ≡ None) (λ x. with_case_item (reverse stack.old.items) go ≡ go x (reverse stack.new.items)) }
 {
@@ -355,6 +376,7 @@ pub fn take_case_item(stack: &mut Vec<Value>) -> Option<CaseItem>
     }
 }
 
+/// Takes the top value off the stack: the case items, or `None` where it is something else or there is none.
 pub fn take_case_items(stack: &mut Vec<Value>) -> Option<Items<CaseItem>>
     ensures { (go : Goes (List CaseItem)) → MatchOption result (with_case_items (reverse stack.old.items) go ≡ None) (λ x. with_case_items (reverse stack.old.items) go ≡ go x (reverse stack.new.items)) }
 {
@@ -365,6 +387,7 @@ pub fn take_case_items(stack: &mut Vec<Value>) -> Option<Items<CaseItem>>
     }
 }
 
+/// Takes the top value off the stack: the sign, or `None` where it is something else or there is none.
 pub fn take_sign(stack: &mut Vec<Value>) -> Option<bool>
     ensures { (go : Goes Bool) → MatchOption result (with_sign (reverse stack.old.items) go ≡ None) (λ x. with_sign (reverse stack.old.items) go ≡ go x (reverse stack.new.items)) }
 {
@@ -375,6 +398,7 @@ pub fn take_sign(stack: &mut Vec<Value>) -> Option<bool>
     }
 }
 
+/// Takes the top value off the stack: the net kind, or `None` where it is something else or there is none.
 pub fn take_net_kind(stack: &mut Vec<Value>) -> Option<Option<NetKind>>
     ensures { (go : Goes (Option NetKind)) → MatchOption result (with_net_kind (reverse stack.old.items) go ≡ None) (λ x. with_net_kind (reverse stack.old.items) go ≡ go x (reverse stack.new.items)) }
 {
@@ -385,6 +409,7 @@ pub fn take_net_kind(stack: &mut Vec<Value>) -> Option<Option<NetKind>>
     }
 }
 
+/// Takes the top value off the stack: the parameter range, or `None` where it is something else or there is none.
 pub fn take_parameter_range(stack: &mut Vec<Value>) -> Option<Option<ParameterRange>>
     ensures { (go : Goes (Option ParameterRange)) → MatchOption result (with_parameter_range (reverse stack.old.items) go ≡ None) (λ x. with_parameter_range (reverse stack.old.items) go ≡ go x (reverse stack.new.items)) }
 {
@@ -395,6 +420,7 @@ pub fn take_parameter_range(stack: &mut Vec<Value>) -> Option<Option<ParameterRa
     }
 }
 
+/// Takes the top value off the stack: the parameter, or `None` where it is something else or there is none.
 pub fn take_parameter(stack: &mut Vec<Value>) -> Option<ParameterAssignment>
     ensures { (go : Goes ParameterAssignment) → MatchOption result (with_parameter (reverse stack.old.items) go ≡ None) (λ x. with_parameter (reverse stack.old.items) go ≡ go x (reverse stack.new.items)) }
 {
@@ -405,6 +431,7 @@ pub fn take_parameter(stack: &mut Vec<Value>) -> Option<ParameterAssignment>
     }
 }
 
+/// Takes the top value off the stack: the parameters, or `None` where it is something else or there is none.
 pub fn take_parameters(stack: &mut Vec<Value>) -> Option<Items<ParameterAssignment>>
     ensures { (go : Goes (List ParameterAssignment)) → MatchOption result (with_parameters (reverse stack.old.items) go ≡ None) (λ x. with_parameters (reverse stack.old.items) go ≡ go x (reverse stack.new.items)) }
 {
@@ -415,6 +442,7 @@ pub fn take_parameters(stack: &mut Vec<Value>) -> Option<Items<ParameterAssignme
     }
 }
 
+/// Takes the top value off the stack: the groups, or `None` where it is something else or there is none.
 pub fn take_groups(stack: &mut Vec<Value>) -> Option<Items<ParameterDeclaration>>
     ensures { (go : Goes (List ParameterDeclaration)) → MatchOption result (with_groups (reverse stack.old.items) go ≡ None) (λ x. with_groups (reverse stack.old.items) go ≡ go x (reverse stack.new.items)) }
 {
@@ -425,6 +453,7 @@ pub fn take_groups(stack: &mut Vec<Value>) -> Option<Items<ParameterDeclaration>
     }
 }
 
+/// Takes the top value off the stack: the names, or `None` where it is something else or there is none.
 pub fn take_names(stack: &mut Vec<Value>) -> Option<Items<Identifier>>
     ensures { (go : Goes (List Identifier)) → MatchOption result (with_names (reverse stack.old.items) go ≡ None) (λ x. with_names (reverse stack.old.items) go ≡ go x (reverse stack.new.items)) }
 {
@@ -435,6 +464,7 @@ pub fn take_names(stack: &mut Vec<Value>) -> Option<Items<Identifier>>
     }
 }
 
+/// Takes the top value off the stack: the declared names, or `None` where it is something else or there is none.
 pub fn take_declared_names(stack: &mut Vec<Value>) -> Option<Items<Identifier>>
     ensures { (go : Goes (List Identifier)) → MatchOption result (with_declared_names (reverse stack.old.items) go ≡ None) (λ x. with_declared_names (reverse stack.old.items) go ≡ go x (reverse stack.new.items)) }
 {
@@ -445,6 +475,7 @@ pub fn take_declared_names(stack: &mut Vec<Value>) -> Option<Items<Identifier>>
     }
 }
 
+/// Takes the top value off the stack: the declarator, or `None` where it is something else or there is none.
 pub fn take_declarator(stack: &mut Vec<Value>) -> Option<Declarator>
     ensures { (go : Goes Declarator) → MatchOption result (with_declarator (reverse stack.old.items) go ≡ None) (λ x. with_declarator (reverse stack.old.items) go ≡ go x (reverse stack.new.items)) }
 {
@@ -455,6 +486,7 @@ pub fn take_declarator(stack: &mut Vec<Value>) -> Option<Declarator>
     }
 }
 
+/// Takes the top value off the stack: the declarators, or `None` where it is something else or there is none.
 pub fn take_declarators(stack: &mut Vec<Value>) -> Option<Items<Declarator>>
     ensures { (go : Goes (List Declarator)) → MatchOption result (with_declarators (reverse stack.old.items) go ≡ None) (λ x. with_declarators (reverse stack.old.items) go ≡ go x (reverse stack.new.items)) }
 {
@@ -465,6 +497,7 @@ pub fn take_declarators(stack: &mut Vec<Value>) -> Option<Items<Declarator>>
     }
 }
 
+/// Takes the top value off the stack: the register, or `None` where it is something else or there is none.
 pub fn take_register(stack: &mut Vec<Value>) -> Option<Register>
     ensures { (go : Goes Register) → MatchOption result (with_register (reverse stack.old.items) go ≡ None) (λ x. with_register (reverse stack.old.items) go ≡ go x (reverse stack.new.items)) }
 {
@@ -475,6 +508,7 @@ pub fn take_register(stack: &mut Vec<Value>) -> Option<Register>
     }
 }
 
+/// Takes the top value off the stack: the registers, or `None` where it is something else or there is none.
 pub fn take_registers(stack: &mut Vec<Value>) -> Option<Items<Register>>
     ensures { (go : Goes (List Register)) → MatchOption result (with_registers (reverse stack.old.items) go ≡ None) (λ x. with_registers (reverse stack.old.items) go ≡ go x (reverse stack.new.items)) }
 {
@@ -485,6 +519,7 @@ pub fn take_registers(stack: &mut Vec<Value>) -> Option<Items<Register>>
     }
 }
 
+/// Takes the top value off the stack: the ordered, or `None` where it is something else or there is none.
 pub fn take_ordered(stack: &mut Vec<Value>) -> Option<Expr>
     ensures { (go : Goes Expr) → MatchOption result (with_ordered (reverse stack.old.items) go ≡ None) (λ x. with_ordered (reverse stack.old.items) go ≡ go x (reverse stack.new.items)) }
 {
@@ -495,6 +530,7 @@ pub fn take_ordered(stack: &mut Vec<Value>) -> Option<Expr>
     }
 }
 
+/// Takes the top value off the stack: the ordered values, or `None` where it is something else or there is none.
 pub fn take_ordered_values(stack: &mut Vec<Value>) -> Option<Items<Expr>>
     ensures { (go : Goes (List Expr)) → MatchOption result (with_ordered_values (reverse stack.old.items) go ≡ None) (λ x. with_ordered_values (reverse stack.old.items) go ≡ go x (reverse stack.new.items)) }
 {
@@ -505,6 +541,7 @@ pub fn take_ordered_values(stack: &mut Vec<Value>) -> Option<Items<Expr>>
     }
 }
 
+/// Takes the top value off the stack: the named, or `None` where it is something else or there is none.
 pub fn take_named(stack: &mut Vec<Value>) -> Option<NamedConnection>
     ensures { (go : Goes NamedConnection) → MatchOption result (with_named (reverse stack.old.items) go ≡ None) (λ x. with_named (reverse stack.old.items) go ≡ go x (reverse stack.new.items)) }
 {
@@ -515,6 +552,7 @@ pub fn take_named(stack: &mut Vec<Value>) -> Option<NamedConnection>
     }
 }
 
+/// Takes the top value off the stack: the named values, or `None` where it is something else or there is none.
 pub fn take_named_values(stack: &mut Vec<Value>) -> Option<Items<NamedConnection>>
     ensures { (go : Goes (List NamedConnection)) → MatchOption result (with_named_values (reverse stack.old.items) go ≡ None) (λ x. with_named_values (reverse stack.old.items) go ≡ go x (reverse stack.new.items)) }
 {
@@ -525,6 +563,7 @@ pub fn take_named_values(stack: &mut Vec<Value>) -> Option<Items<NamedConnection
     }
 }
 
+/// Takes the top value off the stack: the connections, or `None` where it is something else or there is none.
 pub fn take_connections(stack: &mut Vec<Value>) -> Option<Connections>
     ensures { (go : Goes Connections) → MatchOption result (with_connections (reverse stack.old.items) go ≡ None) (λ x. with_connections (reverse stack.old.items) go ≡ go x (reverse stack.new.items)) }
 {
@@ -535,6 +574,7 @@ pub fn take_connections(stack: &mut Vec<Value>) -> Option<Connections>
     }
 }
 
+/// Takes the top value off the stack: the overrides, or `None` where it is something else or there is none.
 pub fn take_overrides(stack: &mut Vec<Value>) -> Option<Option<Connections>>
     ensures { (go : Goes (Option Connections)) → MatchOption result (with_overrides (reverse stack.old.items) go ≡ None) (λ x. with_overrides (reverse stack.old.items) go ≡ go x (reverse stack.new.items)) }
 {
@@ -545,6 +585,7 @@ pub fn take_overrides(stack: &mut Vec<Value>) -> Option<Option<Connections>>
     }
 }
 
+/// Takes the top value off the stack: the instance, or `None` where it is something else or there is none.
 pub fn take_instance(stack: &mut Vec<Value>) -> Option<Instance>
     ensures { (go : Goes Instance) → MatchOption result (with_instance (reverse stack.old.items) go ≡ None) (λ x. with_instance (reverse stack.old.items) go ≡ go x (reverse stack.new.items)) }
 {
@@ -555,6 +596,7 @@ pub fn take_instance(stack: &mut Vec<Value>) -> Option<Instance>
     }
 }
 
+/// Takes the top value off the stack: the instances, or `None` where it is something else or there is none.
 pub fn take_instances(stack: &mut Vec<Value>) -> Option<Items<Instance>>
     ensures { (go : Goes (List Instance)) → MatchOption result (with_instances (reverse stack.old.items) go ≡ None) (λ x. with_instances (reverse stack.old.items) go ≡ go x (reverse stack.new.items)) }
 {
@@ -565,6 +607,7 @@ pub fn take_instances(stack: &mut Vec<Value>) -> Option<Items<Instance>>
     }
 }
 
+/// Takes the top value off the stack: the net assignment, or `None` where it is something else or there is none.
 pub fn take_net_assignment(stack: &mut Vec<Value>) -> Option<NetAssignment>
     ensures { (go : Goes NetAssignment) → MatchOption result (with_net_assignment (reverse stack.old.items) go ≡ None) (λ x. with_net_assignment (reverse stack.old.items) go ≡ go x (reverse stack.new.items)) }
 {
@@ -575,6 +618,7 @@ pub fn take_net_assignment(stack: &mut Vec<Value>) -> Option<NetAssignment>
     }
 }
 
+/// Takes the top value off the stack: the net assignments, or `None` where it is something else or there is none.
 pub fn take_net_assignments(stack: &mut Vec<Value>) -> Option<Items<NetAssignment>>
     ensures { (go : Goes (List NetAssignment)) → MatchOption result (with_net_assignments (reverse stack.old.items) go ≡ None) (λ x. with_net_assignments (reverse stack.old.items) go ≡ go x (reverse stack.new.items)) }
 {
@@ -585,6 +629,7 @@ pub fn take_net_assignments(stack: &mut Vec<Value>) -> Option<Items<NetAssignmen
     }
 }
 
+/// Takes the top value off the stack: the event, or `None` where it is something else or there is none.
 pub fn take_event(stack: &mut Vec<Value>) -> Option<Event>
     ensures { (go : Goes Event) → MatchOption result (with_event (reverse stack.old.items) go ≡ None) (λ x. with_event (reverse stack.old.items) go ≡ go x (reverse stack.new.items)) }
 {
@@ -595,6 +640,7 @@ pub fn take_event(stack: &mut Vec<Value>) -> Option<Event>
     }
 }
 
+/// Takes the top value off the stack: the ports, or `None` where it is something else or there is none.
 pub fn take_ports(stack: &mut Vec<Value>) -> Option<Items<Port>>
     ensures { (go : Goes (List Port)) → MatchOption result (with_ports (reverse stack.old.items) go ≡ None) (λ x. with_ports (reverse stack.old.items) go ≡ go x (reverse stack.new.items)) }
 {
@@ -605,6 +651,7 @@ pub fn take_ports(stack: &mut Vec<Value>) -> Option<Items<Port>>
     }
 }
 
+/// Takes the top value off the stack: the header, or `None` where it is something else or there is none.
 pub fn take_header(stack: &mut Vec<Value>) -> Option<Header>
     ensures { (go : Goes Header) → MatchOption result (with_header (reverse stack.old.items) go ≡ None) (λ x. with_header (reverse stack.old.items) go ≡ go x (reverse stack.new.items)) }
 {
@@ -615,6 +662,7 @@ pub fn take_header(stack: &mut Vec<Value>) -> Option<Header>
     }
 }
 
+/// Takes the top value off the stack: the item, or `None` where it is something else or there is none.
 pub fn take_item(stack: &mut Vec<Value>) -> Option<Item>
     ensures { (go : Goes Item) → MatchOption result (with_item (reverse stack.old.items) go ≡ None) (λ x. with_item (reverse stack.old.items) go ≡ go x (reverse stack.new.items)) }
 {
@@ -625,6 +673,7 @@ pub fn take_item(stack: &mut Vec<Value>) -> Option<Item>
     }
 }
 
+/// Takes the top value off the stack: the items, or `None` where it is something else or there is none.
 pub fn take_items(stack: &mut Vec<Value>) -> Option<Items<Item>>
     ensures { (go : Goes (List Item)) → MatchOption result (with_items (reverse stack.old.items) go ≡ None) (λ x. with_items (reverse stack.old.items) go ≡ go x (reverse stack.new.items)) }
 {
@@ -635,6 +684,7 @@ pub fn take_items(stack: &mut Vec<Value>) -> Option<Items<Item>>
     }
 }
 
+/// Takes the top value off the stack: the module, or `None` where it is something else or there is none.
 pub fn take_module(stack: &mut Vec<Value>) -> Option<Module>
     ensures { (go : Goes Module) → MatchOption result (with_module (reverse stack.old.items) go ≡ None) (λ x. with_module (reverse stack.old.items) go ≡ go x (reverse stack.new.items)) }
 {
@@ -645,6 +695,7 @@ pub fn take_module(stack: &mut Vec<Value>) -> Option<Module>
     }
 }
 
+/// Takes the top value off the stack: the modules, or `None` where it is something else or there is none.
 pub fn take_modules(stack: &mut Vec<Value>) -> Option<Items<Module>>
     ensures { (go : Goes (List Module)) → MatchOption result (with_modules (reverse stack.old.items) go ≡ None) (λ x. with_modules (reverse stack.old.items) go ≡ go x (reverse stack.new.items)) }
 {
@@ -655,6 +706,7 @@ pub fn take_modules(stack: &mut Vec<Value>) -> Option<Items<Module>>
     }
 }
 
+/// Takes the top value off the stack: the source, or `None` where it is something else or there is none.
 pub fn take_source(stack: &mut Vec<Value>) -> Option<VTree>
     ensures { (go : Goes VTree) → MatchOption result (with_source (reverse stack.old.items) go ≡ None) (λ x. with_source (reverse stack.old.items) go ≡ go x (reverse stack.new.items)) }
 {

@@ -29,6 +29,7 @@ pub fn option(program: &CProgram, e: &Option<Boxed<TExpr>>) -> u64
     }
 }
 
+/// The bits of an expression that may be left out; 0 without one.
 pub fn option_bits(e: &Option<Boxed<TExpr>>) -> u8
     ensures { result ≡ bits_of_option e.now }
 {
@@ -52,6 +53,7 @@ pub fn condition(program: &CProgram, e: &Option<Boxed<TExpr>>) -> u64
     }
 }
 
+/// The bits of a type; 0 for `void`.
 pub fn bits_or_zero(ty: Option<IntType>) -> u8
     ensures { result ≡ bits_or_zero_of ty }
 {
