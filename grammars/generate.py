@@ -90,6 +90,7 @@ def productions_file(language, crate, page, tokens, rows):
         "use Rattle.ll_parse.specs.Productions.{Production, ◌⟶◌, nothing_but_before}",
         f"use Rattle.{crate}.specs.Symbols.{{{', '.join(used)}}}",
         "",
+        "-- all productions, in the order of their numbers",
         "unfoldable pub PRODUCTIONS : List Production",
         "PRODUCTIONS =",
     ]

@@ -2,7 +2,7 @@
 
 ghost use Rattle.std.specs.Prelude.{IfOk, reverse};
 ghost use Rattle.c_stack.specs.Values.{Fits};
-ghost use Rattle.c_actions.specs.Acts.{after_declaration_action};
+ghost use Rattle.c_actions.specs.DeclarationActions.{after_declaration_action};
 
 use c_actions::DeclarationAction;
 use c_make_declarations::{

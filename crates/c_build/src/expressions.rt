@@ -2,7 +2,7 @@
 
 ghost use Rattle.std.specs.Prelude.{IfOk, reverse};
 ghost use Rattle.c_stack.specs.Values.{Fits};
-ghost use Rattle.c_actions.specs.Acts.{after_expression_action};
+ghost use Rattle.c_actions.specs.ExpressionActions.{after_expression_action};
 
 use c_actions::ExpressionAction;
 use c_make_expressions::{

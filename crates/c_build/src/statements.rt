@@ -2,7 +2,7 @@
 
 ghost use Rattle.std.specs.Prelude.{IfOk, reverse};
 ghost use Rattle.c_stack.specs.Values.{Fits};
-ghost use Rattle.c_actions.specs.Acts.{after_statement_action};
+ghost use Rattle.c_actions.specs.StatementActions.{after_statement_action};
 
 use c_actions::StatementAction;
 use c_make_statements::{

@@ -17,7 +17,10 @@ use Rattle.c_actions.specs.declared.actions.FileAction.{FileAction}
 use Rattle.c_actions.specs.declared.actions.FileAction.TheVariants as file_action
 use Rattle.c_actions.specs.declared.actions.Action.{Action}
 use Rattle.c_actions.specs.declared.actions.Action.TheVariants as action
-use Rattle.c_actions.specs.Acts.{after_action, after_token_action, after_expression_action, after_declaration_action, after_statement_action, after_file_action}
+use Rattle.c_actions.specs.Acts.{after_action, after_token_action, after_file_action}
+use Rattle.c_actions.specs.ExpressionActions.{after_expression_action}
+use Rattle.c_actions.specs.DeclarationActions.{after_declaration_action}
+use Rattle.c_actions.specs.StatementActions.{after_statement_action}
 use Rattle.c_actions.specs.declared.actions.TheConstants.{ACTIONS}
 use Rattle.c_actions.specs.Numbers.{action_of}
 use Rattle.c_actions.specs.Sorts.{sorts_of}

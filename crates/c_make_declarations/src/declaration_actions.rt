@@ -2,7 +2,8 @@
 
 ghost use Rattle.std.specs.Prelude.{IfOk, reverse};
 ghost use Rattle.c_stack.specs.Values.{Fits};
-ghost use Rattle.c_actions.specs.DeclarationActions.{after_add_declarator, after_add_item, after_add_member, after_add_name, after_add_parameter, after_array_declarator, after_array_item, after_call_value, after_char_type, after_const_local, after_const_parameter, after_initialized, after_initialized_array, after_int_type, after_integer_members, after_local, after_long_type, after_no_initializer, after_no_name, after_no_parameters, after_one_declarator, after_one_item, after_one_member, after_one_name, after_one_parameter, after_parameter, after_plain_declarator, after_plain_item, after_short_type, after_some_initializer, after_some_name, after_struct_members, after_value};
+ghost use Rattle.c_actions.specs.DeclarationActions.{after_declaration_action};
+ghost use Rattle.c_actions.specs.declared.actions.DeclarationAction.TheVariants as declaration_action;
 
 use c_stack::{
     DeclarationValue, ExpressionValue, PartValue, Value, put, take_declarator, take_declarators,
@@ -20,7 +21,7 @@ use std::alloc::{AllocError, Global};
 
 /// `Type = [Sign] "char"`
 pub fn make_char_type(stack: &mut Vec<Value>) -> Result<bool, AllocError>
-    ensures { IfOk result (λ fits. Fits fits (reverse stack.new.items) (after_char_type (reverse stack.old.items))) }
+    ensures { IfOk result (λ fits. Fits fits (reverse stack.new.items) (after_declaration_action declaration_action.CharType (reverse stack.old.items))) }
 {
     let Some(mark) = take_sign(stack) else {
         return Ok(false);
@@ -37,7 +38,7 @@ pub fn make_char_type(stack: &mut Vec<Value>) -> Result<bool, AllocError>
 
 /// `Type = [Sign] "short" ["int"]`
 pub fn make_short_type(stack: &mut Vec<Value>) -> Result<bool, AllocError>
-    ensures { IfOk result (λ fits. Fits fits (reverse stack.new.items) (after_short_type (reverse stack.old.items))) }
+    ensures { IfOk result (λ fits. Fits fits (reverse stack.new.items) (after_declaration_action declaration_action.ShortType (reverse stack.old.items))) }
 {
     let Some(mark) = take_sign(stack) else {
         return Ok(false);
@@ -54,7 +55,7 @@ pub fn make_short_type(stack: &mut Vec<Value>) -> Result<bool, AllocError>
 
 /// `Type = [Sign] "int" | Sign`
 pub fn make_int_type(stack: &mut Vec<Value>) -> Result<bool, AllocError>
-    ensures { IfOk result (λ fits. Fits fits (reverse stack.new.items) (after_int_type (reverse stack.old.items))) }
+    ensures { IfOk result (λ fits. Fits fits (reverse stack.new.items) (after_declaration_action declaration_action.IntType (reverse stack.old.items))) }
 {
     let Some(mark) = take_sign(stack) else {
         return Ok(false);
@@ -71,7 +72,7 @@ pub fn make_int_type(stack: &mut Vec<Value>) -> Result<bool, AllocError>
 
 /// `Type = [Sign] "long" ["long"] ["int"]`
 pub fn make_long_type(stack: &mut Vec<Value>) -> Result<bool, AllocError>
-    ensures { IfOk result (λ fits. Fits fits (reverse stack.new.items) (after_long_type (reverse stack.old.items))) }
+    ensures { IfOk result (λ fits. Fits fits (reverse stack.new.items) (after_declaration_action declaration_action.LongType (reverse stack.old.items))) }
 {
     let Some(mark) = take_sign(stack) else {
         return Ok(false);
@@ -88,7 +89,7 @@ pub fn make_long_type(stack: &mut Vec<Value>) -> Result<bool, AllocError>
 
 /// `Init = Expression`
 pub fn make_value(stack: &mut Vec<Value>) -> Result<bool, AllocError>
-    ensures { IfOk result (λ fits. Fits fits (reverse stack.new.items) (after_value (reverse stack.old.items))) }
+    ensures { IfOk result (λ fits. Fits fits (reverse stack.new.items) (after_declaration_action declaration_action.Value (reverse stack.old.items))) }
 {
     let Some(expression) = take_expression(stack) else {
         return Ok(false);
@@ -102,7 +103,7 @@ pub fn make_value(stack: &mut Vec<Value>) -> Result<bool, AllocError>
 
 /// `Init = Call`
 pub fn make_call_value(stack: &mut Vec<Value>) -> Result<bool, AllocError>
-    ensures { IfOk result (λ fits. Fits fits (reverse stack.new.items) (after_call_value (reverse stack.old.items))) }
+    ensures { IfOk result (λ fits. Fits fits (reverse stack.new.items) (after_declaration_action declaration_action.CallValue (reverse stack.old.items))) }
 {
     let arguments = take_expressions(stack);
     let name = take_name(stack);
@@ -121,7 +122,7 @@ pub fn make_call_value(stack: &mut Vec<Value>) -> Result<bool, AllocError>
 
 /// No initializer.
 pub fn make_no_initializer(stack: &mut Vec<Value>) -> Result<bool, AllocError>
-    ensures { IfOk result (λ fits. Fits fits (reverse stack.new.items) (after_no_initializer (reverse stack.old.items))) }
+    ensures { IfOk result (λ fits. Fits fits (reverse stack.new.items) (after_declaration_action declaration_action.NoInitializer (reverse stack.old.items))) }
 {
     put(
         stack,
@@ -132,7 +133,7 @@ pub fn make_no_initializer(stack: &mut Vec<Value>) -> Result<bool, AllocError>
 
 /// An initializer where there may be none.
 pub fn make_some_initializer(stack: &mut Vec<Value>) -> Result<bool, AllocError>
-    ensures { IfOk result (λ fits. Fits fits (reverse stack.new.items) (after_some_initializer (reverse stack.old.items))) }
+    ensures { IfOk result (λ fits. Fits fits (reverse stack.new.items) (after_declaration_action declaration_action.SomeInitializer (reverse stack.old.items))) }
 {
     let Some(given) = take_initializer(stack) else {
         return Ok(false);
@@ -146,7 +147,7 @@ pub fn make_some_initializer(stack: &mut Vec<Value>) -> Result<bool, AllocError>
 
 /// `Decl = ID`
 pub fn make_plain_declarator(stack: &mut Vec<Value>) -> Result<bool, AllocError>
-    ensures { IfOk result (λ fits. Fits fits (reverse stack.new.items) (after_plain_declarator (reverse stack.old.items))) }
+    ensures { IfOk result (λ fits. Fits fits (reverse stack.new.items) (after_declaration_action declaration_action.PlainDeclarator (reverse stack.old.items))) }
 {
     let Some(name) = take_name(stack) else {
         return Ok(false);
@@ -160,7 +161,7 @@ pub fn make_plain_declarator(stack: &mut Vec<Value>) -> Result<bool, AllocError>
 
 /// `Decl = ID "=" Init`
 pub fn make_initialized(stack: &mut Vec<Value>) -> Result<bool, AllocError>
-    ensures { IfOk result (λ fits. Fits fits (reverse stack.new.items) (after_initialized (reverse stack.old.items))) }
+    ensures { IfOk result (λ fits. Fits fits (reverse stack.new.items) (after_declaration_action declaration_action.Initialized (reverse stack.old.items))) }
 {
     let given = take_initializer(stack);
     let name = take_name(stack);
@@ -176,7 +177,7 @@ pub fn make_initialized(stack: &mut Vec<Value>) -> Result<bool, AllocError>
 
 /// `Decl = ID "[" Expression "]"`
 pub fn make_array_declarator(stack: &mut Vec<Value>) -> Result<bool, AllocError>
-    ensures { IfOk result (λ fits. Fits fits (reverse stack.new.items) (after_array_declarator (reverse stack.old.items))) }
+    ensures { IfOk result (λ fits. Fits fits (reverse stack.new.items) (after_declaration_action declaration_action.ArrayDeclarator (reverse stack.old.items))) }
 {
     let len = take_expression(stack);
     let name = take_name(stack);
@@ -192,7 +193,7 @@ pub fn make_array_declarator(stack: &mut Vec<Value>) -> Result<bool, AllocError>
 
 /// `Decl = ID "[" Expression "]" "=" "{" Expression { "," Expression } [ "," ] "}"`
 pub fn make_initialized_array(stack: &mut Vec<Value>) -> Result<bool, AllocError>
-    ensures { IfOk result (λ fits. Fits fits (reverse stack.new.items) (after_initialized_array (reverse stack.old.items))) }
+    ensures { IfOk result (λ fits. Fits fits (reverse stack.new.items) (after_declaration_action declaration_action.InitializedArray (reverse stack.old.items))) }
 {
     let elements = take_expressions(stack);
     let len = take_expression(stack);
@@ -211,7 +212,7 @@ pub fn make_initialized_array(stack: &mut Vec<Value>) -> Result<bool, AllocError
 
 /// The first of several declared names.
 pub fn make_one_declarator(alloc: Global, stack: &mut Vec<Value>) -> Result<bool, AllocError>
-    ensures { IfOk result (λ fits. Fits fits (reverse stack.new.items) (after_one_declarator (reverse stack.old.items))) }
+    ensures { IfOk result (λ fits. Fits fits (reverse stack.new.items) (after_declaration_action declaration_action.OneDeclarator (reverse stack.old.items))) }
 {
     let Some(declarator_made) = take_declarator(stack) else {
         return Ok(false);
@@ -227,7 +228,7 @@ pub fn make_one_declarator(alloc: Global, stack: &mut Vec<Value>) -> Result<bool
 
 /// One more declared name.
 pub fn make_add_declarator(stack: &mut Vec<Value>) -> Result<bool, AllocError>
-    ensures { IfOk result (λ fits. Fits fits (reverse stack.new.items) (after_add_declarator (reverse stack.old.items))) }
+    ensures { IfOk result (λ fits. Fits fits (reverse stack.new.items) (after_declaration_action declaration_action.AddDeclarator (reverse stack.old.items))) }
 {
     let declarator_made = take_declarator(stack);
     let declarators = take_declarators(stack);
@@ -244,7 +245,7 @@ pub fn make_add_declarator(stack: &mut Vec<Value>) -> Result<bool, AllocError>
 
 /// `Local = Type Decl { "," Decl } ";"`
 pub fn make_local(stack: &mut Vec<Value>) -> Result<bool, AllocError>
-    ensures { IfOk result (λ fits. Fits fits (reverse stack.new.items) (after_local (reverse stack.old.items))) }
+    ensures { IfOk result (λ fits. Fits fits (reverse stack.new.items) (after_declaration_action declaration_action.Local (reverse stack.old.items))) }
 {
     let declarators = take_declarators(stack);
     let type_name = take_type(stack);
@@ -264,7 +265,7 @@ pub fn make_local(stack: &mut Vec<Value>) -> Result<bool, AllocError>
 
 /// `Local = "const" Type Decl { "," Decl } ";"`
 pub fn make_const_local(stack: &mut Vec<Value>) -> Result<bool, AllocError>
-    ensures { IfOk result (λ fits. Fits fits (reverse stack.new.items) (after_const_local (reverse stack.old.items))) }
+    ensures { IfOk result (λ fits. Fits fits (reverse stack.new.items) (after_declaration_action declaration_action.ConstLocal (reverse stack.old.items))) }
 {
     let declarators = take_declarators(stack);
     let type_name = take_type(stack);
@@ -285,7 +286,7 @@ pub fn make_const_local(stack: &mut Vec<Value>) -> Result<bool, AllocError>
 
 /// `Item = ID`
 pub fn make_plain_item(stack: &mut Vec<Value>) -> Result<bool, AllocError>
-    ensures { IfOk result (λ fits. Fits fits (reverse stack.new.items) (after_plain_item (reverse stack.old.items))) }
+    ensures { IfOk result (λ fits. Fits fits (reverse stack.new.items) (after_declaration_action declaration_action.PlainItem (reverse stack.old.items))) }
 {
     let Some(name) = take_name(stack) else {
         return Ok(false);
@@ -299,7 +300,7 @@ pub fn make_plain_item(stack: &mut Vec<Value>) -> Result<bool, AllocError>
 
 /// `Item = ID "[" Expression "]"`
 pub fn make_array_item(stack: &mut Vec<Value>) -> Result<bool, AllocError>
-    ensures { IfOk result (λ fits. Fits fits (reverse stack.new.items) (after_array_item (reverse stack.old.items))) }
+    ensures { IfOk result (λ fits. Fits fits (reverse stack.new.items) (after_declaration_action declaration_action.ArrayItem (reverse stack.old.items))) }
 {
     let len = take_expression(stack);
     let name = take_name(stack);
@@ -315,7 +316,7 @@ pub fn make_array_item(stack: &mut Vec<Value>) -> Result<bool, AllocError>
 
 /// The first of several items.
 pub fn make_one_item(alloc: Global, stack: &mut Vec<Value>) -> Result<bool, AllocError>
-    ensures { IfOk result (λ fits. Fits fits (reverse stack.new.items) (after_one_item (reverse stack.old.items))) }
+    ensures { IfOk result (λ fits. Fits fits (reverse stack.new.items) (after_declaration_action declaration_action.OneItem (reverse stack.old.items))) }
 {
     let Some(item) = take_item(stack) else {
         return Ok(false);
@@ -329,7 +330,7 @@ pub fn make_one_item(alloc: Global, stack: &mut Vec<Value>) -> Result<bool, Allo
 
 /// One more item.
 pub fn make_add_item(stack: &mut Vec<Value>) -> Result<bool, AllocError>
-    ensures { IfOk result (λ fits. Fits fits (reverse stack.new.items) (after_add_item (reverse stack.old.items))) }
+    ensures { IfOk result (λ fits. Fits fits (reverse stack.new.items) (after_declaration_action declaration_action.AddItem (reverse stack.old.items))) }
 {
     let item = take_item(stack);
     let items = take_items(stack);
@@ -343,7 +344,7 @@ pub fn make_add_item(stack: &mut Vec<Value>) -> Result<bool, AllocError>
 
 /// The first of several declared names.
 pub fn make_one_name(alloc: Global, stack: &mut Vec<Value>) -> Result<bool, AllocError>
-    ensures { IfOk result (λ fits. Fits fits (reverse stack.new.items) (after_one_name (reverse stack.old.items))) }
+    ensures { IfOk result (λ fits. Fits fits (reverse stack.new.items) (after_declaration_action declaration_action.OneName (reverse stack.old.items))) }
 {
     let Some(name) = take_declared(stack) else {
         return Ok(false);
@@ -357,7 +358,7 @@ pub fn make_one_name(alloc: Global, stack: &mut Vec<Value>) -> Result<bool, Allo
 
 /// One more declared name.
 pub fn make_add_name(stack: &mut Vec<Value>) -> Result<bool, AllocError>
-    ensures { IfOk result (λ fits. Fits fits (reverse stack.new.items) (after_add_name (reverse stack.old.items))) }
+    ensures { IfOk result (λ fits. Fits fits (reverse stack.new.items) (after_declaration_action declaration_action.AddName (reverse stack.old.items))) }
 {
     let name = take_declared(stack);
     let names = take_names(stack);
@@ -371,7 +372,7 @@ pub fn make_add_name(stack: &mut Vec<Value>) -> Result<bool, AllocError>
 
 /// `Member = Type Item { "," Item } ";"`
 pub fn make_integer_members(stack: &mut Vec<Value>) -> Result<bool, AllocError>
-    ensures { IfOk result (λ fits. Fits fits (reverse stack.new.items) (after_integer_members (reverse stack.old.items))) }
+    ensures { IfOk result (λ fits. Fits fits (reverse stack.new.items) (after_declaration_action declaration_action.IntegerMembers (reverse stack.old.items))) }
 {
     let items = take_items(stack);
     let type_name = take_type(stack);
@@ -387,7 +388,7 @@ pub fn make_integer_members(stack: &mut Vec<Value>) -> Result<bool, AllocError>
 
 /// `Member = "struct" ID ID { "," ID } ";"`
 pub fn make_struct_members(stack: &mut Vec<Value>) -> Result<bool, AllocError>
-    ensures { IfOk result (λ fits. Fits fits (reverse stack.new.items) (after_struct_members (reverse stack.old.items))) }
+    ensures { IfOk result (λ fits. Fits fits (reverse stack.new.items) (after_declaration_action declaration_action.StructMembers (reverse stack.old.items))) }
 {
     let names = take_names(stack);
     let tag = take_name(stack);
@@ -404,7 +405,7 @@ pub fn make_struct_members(stack: &mut Vec<Value>) -> Result<bool, AllocError>
 
 /// The first of several members.
 pub fn make_one_member(alloc: Global, stack: &mut Vec<Value>) -> Result<bool, AllocError>
-    ensures { IfOk result (λ fits. Fits fits (reverse stack.new.items) (after_one_member (reverse stack.old.items))) }
+    ensures { IfOk result (λ fits. Fits fits (reverse stack.new.items) (after_declaration_action declaration_action.OneMember (reverse stack.old.items))) }
 {
     let Some(member_made) = take_member(stack) else {
         return Ok(false);
@@ -418,7 +419,7 @@ pub fn make_one_member(alloc: Global, stack: &mut Vec<Value>) -> Result<bool, Al
 
 /// One more member.
 pub fn make_add_member(stack: &mut Vec<Value>) -> Result<bool, AllocError>
-    ensures { IfOk result (λ fits. Fits fits (reverse stack.new.items) (after_add_member (reverse stack.old.items))) }
+    ensures { IfOk result (λ fits. Fits fits (reverse stack.new.items) (after_declaration_action declaration_action.AddMember (reverse stack.old.items))) }
 {
     let member_made = take_member(stack);
     let members = take_members(stack);
@@ -432,7 +433,7 @@ pub fn make_add_member(stack: &mut Vec<Value>) -> Result<bool, AllocError>
 
 /// No name.
 pub fn make_no_name(stack: &mut Vec<Value>) -> Result<bool, AllocError>
-    ensures { IfOk result (λ fits. Fits fits (reverse stack.new.items) (after_no_name (reverse stack.old.items))) }
+    ensures { IfOk result (λ fits. Fits fits (reverse stack.new.items) (after_declaration_action declaration_action.NoName (reverse stack.old.items))) }
 {
     put(
         stack,
@@ -443,7 +444,7 @@ pub fn make_no_name(stack: &mut Vec<Value>) -> Result<bool, AllocError>
 
 /// A name where there may be none.
 pub fn make_some_name(stack: &mut Vec<Value>) -> Result<bool, AllocError>
-    ensures { IfOk result (λ fits. Fits fits (reverse stack.new.items) (after_some_name (reverse stack.old.items))) }
+    ensures { IfOk result (λ fits. Fits fits (reverse stack.new.items) (after_declaration_action declaration_action.SomeName (reverse stack.old.items))) }
 {
     let Some(name) = take_declared(stack) else {
         return Ok(false);
@@ -457,7 +458,7 @@ pub fn make_some_name(stack: &mut Vec<Value>) -> Result<bool, AllocError>
 
 /// `Param = Type [ ID ]`
 pub fn make_parameter(stack: &mut Vec<Value>) -> Result<bool, AllocError>
-    ensures { IfOk result (λ fits. Fits fits (reverse stack.new.items) (after_parameter (reverse stack.old.items))) }
+    ensures { IfOk result (λ fits. Fits fits (reverse stack.new.items) (after_declaration_action declaration_action.Parameter (reverse stack.old.items))) }
 {
     let name = take_name_option(stack);
     let type_name = take_type(stack);
@@ -477,7 +478,7 @@ pub fn make_parameter(stack: &mut Vec<Value>) -> Result<bool, AllocError>
 
 /// `Param = "const" Type [ ID ]`
 pub fn make_const_parameter(stack: &mut Vec<Value>) -> Result<bool, AllocError>
-    ensures { IfOk result (λ fits. Fits fits (reverse stack.new.items) (after_const_parameter (reverse stack.old.items))) }
+    ensures { IfOk result (λ fits. Fits fits (reverse stack.new.items) (after_declaration_action declaration_action.ConstParameter (reverse stack.old.items))) }
 {
     let name = take_name_option(stack);
     let type_name = take_type(stack);
@@ -498,7 +499,7 @@ pub fn make_const_parameter(stack: &mut Vec<Value>) -> Result<bool, AllocError>
 
 /// `Params = [ "void" ]`
 pub fn make_no_parameters(alloc: Global, stack: &mut Vec<Value>) -> Result<bool, AllocError>
-    ensures { IfOk result (λ fits. Fits fits (reverse stack.new.items) (after_no_parameters (reverse stack.old.items))) }
+    ensures { IfOk result (λ fits. Fits fits (reverse stack.new.items) (after_declaration_action declaration_action.NoParameters (reverse stack.old.items))) }
 {
     put(stack, Value::Part(PartValue::Parameters(Items::new(alloc))))?;
     Ok(true)
@@ -506,7 +507,7 @@ pub fn make_no_parameters(alloc: Global, stack: &mut Vec<Value>) -> Result<bool,
 
 /// The first of several parameters.
 pub fn make_one_parameter(alloc: Global, stack: &mut Vec<Value>) -> Result<bool, AllocError>
-    ensures { IfOk result (λ fits. Fits fits (reverse stack.new.items) (after_one_parameter (reverse stack.old.items))) }
+    ensures { IfOk result (λ fits. Fits fits (reverse stack.new.items) (after_declaration_action declaration_action.OneParameter (reverse stack.old.items))) }
 {
     let Some(parameter) = take_parameter(stack) else {
         return Ok(false);
@@ -520,7 +521,7 @@ pub fn make_one_parameter(alloc: Global, stack: &mut Vec<Value>) -> Result<bool,
 
 /// One more parameter.
 pub fn make_add_parameter(stack: &mut Vec<Value>) -> Result<bool, AllocError>
-    ensures { IfOk result (λ fits. Fits fits (reverse stack.new.items) (after_add_parameter (reverse stack.old.items))) }
+    ensures { IfOk result (λ fits. Fits fits (reverse stack.new.items) (after_declaration_action declaration_action.AddParameter (reverse stack.old.items))) }
 {
     let parameter = take_parameter(stack);
     let parameters = take_parameters(stack);

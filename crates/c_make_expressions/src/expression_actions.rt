@@ -2,7 +2,8 @@
 
 ghost use Rattle.std.specs.Prelude.{IfOk, reverse};
 ghost use Rattle.c_stack.specs.Values.{Fits};
-ghost use Rattle.c_actions.specs.ExpressionActions.{after_add_expression, after_add_path_member, after_binary, after_cast, after_conditional, after_element, after_no_expression, after_no_expressions, after_object, after_one_expression, after_parentheses, after_path, after_read, after_some_expression, after_unary};
+ghost use Rattle.c_actions.specs.ExpressionActions.{after_expression_action};
+ghost use Rattle.c_actions.specs.declared.actions.ExpressionAction.TheVariants as expression_action;
 
 use c_stack::{
     ExpressionValue, Value, put, take_binary_mark, take_expression, take_expressions, take_name,
@@ -15,7 +16,7 @@ use std::alloc::{AllocError, Global};
 
 /// `Object = ID`
 pub fn make_object(alloc: Global, stack: &mut Vec<Value>) -> Result<bool, AllocError>
-    ensures { IfOk result (λ fits. Fits fits (reverse stack.new.items) (after_object (reverse stack.old.items))) }
+    ensures { IfOk result (λ fits. Fits fits (reverse stack.new.items) (after_expression_action expression_action.Object (reverse stack.old.items))) }
 {
     let Some(name) = take_name(stack) else {
         return Ok(false);
@@ -32,7 +33,7 @@ pub fn make_object(alloc: Global, stack: &mut Vec<Value>) -> Result<bool, AllocE
 
 /// `Object = Object "." ID`
 pub fn make_add_path_member(stack: &mut Vec<Value>) -> Result<bool, AllocError>
-    ensures { IfOk result (λ fits. Fits fits (reverse stack.new.items) (after_add_path_member (reverse stack.old.items))) }
+    ensures { IfOk result (λ fits. Fits fits (reverse stack.new.items) (after_expression_action expression_action.AddPathMember (reverse stack.old.items))) }
 {
     let name = take_name(stack);
     let object = take_object(stack);
@@ -46,7 +47,7 @@ pub fn make_add_path_member(stack: &mut Vec<Value>) -> Result<bool, AllocError>
 
 /// `Path = Object`
 pub fn make_path(stack: &mut Vec<Value>) -> Result<bool, AllocError>
-    ensures { IfOk result (λ fits. Fits fits (reverse stack.new.items) (after_path (reverse stack.old.items))) }
+    ensures { IfOk result (λ fits. Fits fits (reverse stack.new.items) (after_expression_action expression_action.Path (reverse stack.old.items))) }
 {
     let Some(object) = take_object(stack) else {
         return Ok(false);
@@ -60,7 +61,7 @@ pub fn make_path(stack: &mut Vec<Value>) -> Result<bool, AllocError>
 
 /// `Path = Object "[" Expression "]"`
 pub fn make_element(alloc: Global, stack: &mut Vec<Value>) -> Result<bool, AllocError>
-    ensures { IfOk result (λ fits. Fits fits (reverse stack.new.items) (after_element (reverse stack.old.items))) }
+    ensures { IfOk result (λ fits. Fits fits (reverse stack.new.items) (after_expression_action expression_action.Element (reverse stack.old.items))) }
 {
     let index = take_expression(stack);
     let place = take_place(stack);
@@ -78,7 +79,7 @@ pub fn make_element(alloc: Global, stack: &mut Vec<Value>) -> Result<bool, Alloc
 
 /// No expressions.
 pub fn make_no_expressions(alloc: Global, stack: &mut Vec<Value>) -> Result<bool, AllocError>
-    ensures { IfOk result (λ fits. Fits fits (reverse stack.new.items) (after_no_expressions (reverse stack.old.items))) }
+    ensures { IfOk result (λ fits. Fits fits (reverse stack.new.items) (after_expression_action expression_action.NoExpressions (reverse stack.old.items))) }
 {
     put(
         stack,
@@ -89,7 +90,7 @@ pub fn make_no_expressions(alloc: Global, stack: &mut Vec<Value>) -> Result<bool
 
 /// The first of several expressions.
 pub fn make_one_expression(alloc: Global, stack: &mut Vec<Value>) -> Result<bool, AllocError>
-    ensures { IfOk result (λ fits. Fits fits (reverse stack.new.items) (after_one_expression (reverse stack.old.items))) }
+    ensures { IfOk result (λ fits. Fits fits (reverse stack.new.items) (after_expression_action expression_action.OneExpression (reverse stack.old.items))) }
 {
     let Some(expression) = take_expression(stack) else {
         return Ok(false);
@@ -105,7 +106,7 @@ pub fn make_one_expression(alloc: Global, stack: &mut Vec<Value>) -> Result<bool
 
 /// One more expression.
 pub fn make_add_expression(stack: &mut Vec<Value>) -> Result<bool, AllocError>
-    ensures { IfOk result (λ fits. Fits fits (reverse stack.new.items) (after_add_expression (reverse stack.old.items))) }
+    ensures { IfOk result (λ fits. Fits fits (reverse stack.new.items) (after_expression_action expression_action.AddExpression (reverse stack.old.items))) }
 {
     let expression = take_expression(stack);
     let expressions = take_expressions(stack);
@@ -122,7 +123,7 @@ pub fn make_add_expression(stack: &mut Vec<Value>) -> Result<bool, AllocError>
 
 /// No expression.
 pub fn make_no_expression(stack: &mut Vec<Value>) -> Result<bool, AllocError>
-    ensures { IfOk result (λ fits. Fits fits (reverse stack.new.items) (after_no_expression (reverse stack.old.items))) }
+    ensures { IfOk result (λ fits. Fits fits (reverse stack.new.items) (after_expression_action expression_action.NoExpression (reverse stack.old.items))) }
 {
     put(
         stack,
@@ -133,7 +134,7 @@ pub fn make_no_expression(stack: &mut Vec<Value>) -> Result<bool, AllocError>
 
 /// An expression where there may be none.
 pub fn make_some_expression(stack: &mut Vec<Value>) -> Result<bool, AllocError>
-    ensures { IfOk result (λ fits. Fits fits (reverse stack.new.items) (after_some_expression (reverse stack.old.items))) }
+    ensures { IfOk result (λ fits. Fits fits (reverse stack.new.items) (after_expression_action expression_action.SomeExpression (reverse stack.old.items))) }
 {
     let Some(expression) = take_expression(stack) else {
         return Ok(false);
@@ -147,7 +148,7 @@ pub fn make_some_expression(stack: &mut Vec<Value>) -> Result<bool, AllocError>
 
 /// `Primary = Path`
 pub fn make_read(stack: &mut Vec<Value>) -> Result<bool, AllocError>
-    ensures { IfOk result (λ fits. Fits fits (reverse stack.new.items) (after_read (reverse stack.old.items))) }
+    ensures { IfOk result (λ fits. Fits fits (reverse stack.new.items) (after_expression_action expression_action.Read (reverse stack.old.items))) }
 {
     let Some(path_read) = take_path(stack) else {
         return Ok(false);
@@ -161,7 +162,7 @@ pub fn make_read(stack: &mut Vec<Value>) -> Result<bool, AllocError>
 
 /// `Primary = "(" Expression ")"`
 pub fn make_parentheses(alloc: Global, stack: &mut Vec<Value>) -> Result<bool, AllocError>
-    ensures { IfOk result (λ fits. Fits fits (reverse stack.new.items) (after_parentheses (reverse stack.old.items))) }
+    ensures { IfOk result (λ fits. Fits fits (reverse stack.new.items) (after_expression_action expression_action.Parentheses (reverse stack.old.items))) }
 {
     let inside = take_expression(stack);
     let place = take_place(stack);
@@ -178,7 +179,7 @@ pub fn make_parentheses(alloc: Global, stack: &mut Vec<Value>) -> Result<bool, A
 
 /// `Unary = ("+" | "-" | "!" | "~") Unary`
 pub fn make_unary(alloc: Global, stack: &mut Vec<Value>) -> Result<bool, AllocError>
-    ensures { IfOk result (λ fits. Fits fits (reverse stack.new.items) (after_unary (reverse stack.old.items))) }
+    ensures { IfOk result (λ fits. Fits fits (reverse stack.new.items) (after_expression_action expression_action.Unary (reverse stack.old.items))) }
 {
     let operand = take_expression(stack);
     let mark = take_unary_mark(stack);
@@ -195,7 +196,7 @@ pub fn make_unary(alloc: Global, stack: &mut Vec<Value>) -> Result<bool, AllocEr
 
 /// `Unary = "(" Type ")" Unary`
 pub fn make_cast(alloc: Global, stack: &mut Vec<Value>) -> Result<bool, AllocError>
-    ensures { IfOk result (λ fits. Fits fits (reverse stack.new.items) (after_cast (reverse stack.old.items))) }
+    ensures { IfOk result (λ fits. Fits fits (reverse stack.new.items) (after_expression_action expression_action.Cast (reverse stack.old.items))) }
 {
     let operand = take_expression(stack);
     let type_name = take_type(stack);
@@ -213,7 +214,7 @@ pub fn make_cast(alloc: Global, stack: &mut Vec<Value>) -> Result<bool, AllocErr
 
 /// An operator with its operands.
 pub fn make_binary(alloc: Global, stack: &mut Vec<Value>) -> Result<bool, AllocError>
-    ensures { IfOk result (λ fits. Fits fits (reverse stack.new.items) (after_binary (reverse stack.old.items))) }
+    ensures { IfOk result (λ fits. Fits fits (reverse stack.new.items) (after_expression_action expression_action.Binary (reverse stack.old.items))) }
 {
     let right = take_expression(stack);
     let mark = take_binary_mark(stack);
@@ -231,7 +232,7 @@ pub fn make_binary(alloc: Global, stack: &mut Vec<Value>) -> Result<bool, AllocE
 
 /// `Expression "?" Expression ":" Expression`
 pub fn make_conditional(alloc: Global, stack: &mut Vec<Value>) -> Result<bool, AllocError>
-    ensures { IfOk result (λ fits. Fits fits (reverse stack.new.items) (after_conditional (reverse stack.old.items))) }
+    ensures { IfOk result (λ fits. Fits fits (reverse stack.new.items) (after_expression_action expression_action.Conditional (reverse stack.old.items))) }
 {
     let second = take_expression(stack);
     let first = take_expression(stack);

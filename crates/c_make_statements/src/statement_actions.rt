@@ -3,7 +3,8 @@
 ghost use Rattle.std.specs.Prelude.{◌≡◌, IfOk, reverse};
 ghost use Rattle.c_tree.specs.Starts.{label_start};
 ghost use Rattle.c_stack.specs.Values.{Fits};
-ghost use Rattle.c_actions.specs.StatementActions.{after_add_group, after_add_label, after_add_local, after_add_statement, after_add_to_group, after_assert, after_assign, after_block, after_break, after_call, after_case, after_compound, after_continue, after_cprover_assert, after_cprover_assume, after_default, after_do, after_empty, after_first_label, after_for, after_for_local, after_for_nothing, after_for_simple, after_group, after_if_alone, after_if_else, after_labelled, after_no_groups, after_no_items, after_no_simple, after_return, after_simple, after_some_simple, after_step_after, after_step_before, after_switch, after_update, after_while};
+ghost use Rattle.c_actions.specs.StatementActions.{after_statement_action};
+ghost use Rattle.c_actions.specs.declared.actions.StatementAction.TheVariants as statement_action;
 
 use c_stack::{
     Labels, StatementValue, SwitchValue, Value, put, take_assignment_mark, take_block,
@@ -30,7 +31,7 @@ fn label_start(label: &Label) -> Place
 
 /// `Simple = Call`
 pub fn make_call(stack: &mut Vec<Value>) -> Result<bool, AllocError>
-    ensures { IfOk result (λ fits. Fits fits (reverse stack.new.items) (after_call (reverse stack.old.items))) }
+    ensures { IfOk result (λ fits. Fits fits (reverse stack.new.items) (after_statement_action statement_action.Call (reverse stack.old.items))) }
 {
     let arguments = take_expressions(stack);
     let name = take_name(stack);
@@ -46,7 +47,7 @@ pub fn make_call(stack: &mut Vec<Value>) -> Result<bool, AllocError>
 
 /// `Simple = Path "=" Init`
 pub fn make_assign(stack: &mut Vec<Value>) -> Result<bool, AllocError>
-    ensures { IfOk result (λ fits. Fits fits (reverse stack.new.items) (after_assign (reverse stack.old.items))) }
+    ensures { IfOk result (λ fits. Fits fits (reverse stack.new.items) (after_statement_action statement_action.Assign (reverse stack.old.items))) }
 {
     let given = take_initializer(stack);
     let target = take_path(stack);
@@ -62,7 +63,7 @@ pub fn make_assign(stack: &mut Vec<Value>) -> Result<bool, AllocError>
 
 /// `Simple = Path OpAssign Expression`
 pub fn make_update(stack: &mut Vec<Value>) -> Result<bool, AllocError>
-    ensures { IfOk result (λ fits. Fits fits (reverse stack.new.items) (after_update (reverse stack.old.items))) }
+    ensures { IfOk result (λ fits. Fits fits (reverse stack.new.items) (after_statement_action statement_action.Update (reverse stack.old.items))) }
 {
     let operand = take_expression(stack);
     let mark = take_assignment_mark(stack);
@@ -79,7 +80,7 @@ pub fn make_update(stack: &mut Vec<Value>) -> Result<bool, AllocError>
 
 /// `Simple = Path ("++" | "--")`
 pub fn make_step_after(stack: &mut Vec<Value>) -> Result<bool, AllocError>
-    ensures { IfOk result (λ fits. Fits fits (reverse stack.new.items) (after_step_after (reverse stack.old.items))) }
+    ensures { IfOk result (λ fits. Fits fits (reverse stack.new.items) (after_statement_action statement_action.StepAfter (reverse stack.old.items))) }
 {
     let mark = take_step_mark(stack);
     let target = take_path(stack);
@@ -95,7 +96,7 @@ pub fn make_step_after(stack: &mut Vec<Value>) -> Result<bool, AllocError>
 
 /// `Simple = ("++" | "--") Path`
 pub fn make_step_before(stack: &mut Vec<Value>) -> Result<bool, AllocError>
-    ensures { IfOk result (λ fits. Fits fits (reverse stack.new.items) (after_step_before (reverse stack.old.items))) }
+    ensures { IfOk result (λ fits. Fits fits (reverse stack.new.items) (after_statement_action statement_action.StepBefore (reverse stack.old.items))) }
 {
     let target = take_path(stack);
     let mark = take_step_mark(stack);
@@ -111,7 +112,7 @@ pub fn make_step_before(stack: &mut Vec<Value>) -> Result<bool, AllocError>
 
 /// No simple statement.
 pub fn make_no_simple(stack: &mut Vec<Value>) -> Result<bool, AllocError>
-    ensures { IfOk result (λ fits. Fits fits (reverse stack.new.items) (after_no_simple (reverse stack.old.items))) }
+    ensures { IfOk result (λ fits. Fits fits (reverse stack.new.items) (after_statement_action statement_action.NoSimple (reverse stack.old.items))) }
 {
     put(stack, Value::Statement(StatementValue::SimpleOption(None)))?;
     Ok(true)
@@ -119,7 +120,7 @@ pub fn make_no_simple(stack: &mut Vec<Value>) -> Result<bool, AllocError>
 
 /// A simple statement where there may be none.
 pub fn make_some_simple(stack: &mut Vec<Value>) -> Result<bool, AllocError>
-    ensures { IfOk result (λ fits. Fits fits (reverse stack.new.items) (after_some_simple (reverse stack.old.items))) }
+    ensures { IfOk result (λ fits. Fits fits (reverse stack.new.items) (after_statement_action statement_action.SomeSimple (reverse stack.old.items))) }
 {
     let Some(part) = take_simple(stack) else {
         return Ok(false);
@@ -133,7 +134,7 @@ pub fn make_some_simple(stack: &mut Vec<Value>) -> Result<bool, AllocError>
 
 /// Nothing before the first `;` of a `for`
 pub fn make_for_nothing(stack: &mut Vec<Value>) -> Result<bool, AllocError>
-    ensures { IfOk result (λ fits. Fits fits (reverse stack.new.items) (after_for_nothing (reverse stack.old.items))) }
+    ensures { IfOk result (λ fits. Fits fits (reverse stack.new.items) (after_statement_action statement_action.ForNothing (reverse stack.old.items))) }
 {
     put(
         stack,
@@ -144,7 +145,7 @@ pub fn make_for_nothing(stack: &mut Vec<Value>) -> Result<bool, AllocError>
 
 /// A declaration in the head of a `for`
 pub fn make_for_local(stack: &mut Vec<Value>) -> Result<bool, AllocError>
-    ensures { IfOk result (λ fits. Fits fits (reverse stack.new.items) (after_for_local (reverse stack.old.items))) }
+    ensures { IfOk result (λ fits. Fits fits (reverse stack.new.items) (after_statement_action statement_action.ForLocal (reverse stack.old.items))) }
 {
     let Some(part) = take_local(stack) else {
         return Ok(false);
@@ -158,7 +159,7 @@ pub fn make_for_local(stack: &mut Vec<Value>) -> Result<bool, AllocError>
 
 /// A simple statement in the head of a `for`
 pub fn make_for_simple(stack: &mut Vec<Value>) -> Result<bool, AllocError>
-    ensures { IfOk result (λ fits. Fits fits (reverse stack.new.items) (after_for_simple (reverse stack.old.items))) }
+    ensures { IfOk result (λ fits. Fits fits (reverse stack.new.items) (after_statement_action statement_action.ForSimple (reverse stack.old.items))) }
 {
     let Some(part) = take_simple(stack) else {
         return Ok(false);
@@ -172,7 +173,7 @@ pub fn make_for_simple(stack: &mut Vec<Value>) -> Result<bool, AllocError>
 
 /// `Label = "case" Expression ":"`
 pub fn make_case(stack: &mut Vec<Value>) -> Result<bool, AllocError>
-    ensures { IfOk result (λ fits. Fits fits (reverse stack.new.items) (after_case (reverse stack.old.items))) }
+    ensures { IfOk result (λ fits. Fits fits (reverse stack.new.items) (after_statement_action statement_action.Case (reverse stack.old.items))) }
 {
     let given = take_expression(stack);
     let place = take_place(stack);
@@ -188,7 +189,7 @@ pub fn make_case(stack: &mut Vec<Value>) -> Result<bool, AllocError>
 
 /// `Label = "default" ":"`
 pub fn make_default(stack: &mut Vec<Value>) -> Result<bool, AllocError>
-    ensures { IfOk result (λ fits. Fits fits (reverse stack.new.items) (after_default (reverse stack.old.items))) }
+    ensures { IfOk result (λ fits. Fits fits (reverse stack.new.items) (after_statement_action statement_action.Default (reverse stack.old.items))) }
 {
     let Some(place) = take_place(stack) else {
         return Ok(false);
@@ -202,7 +203,7 @@ pub fn make_default(stack: &mut Vec<Value>) -> Result<bool, AllocError>
 
 /// The first label of a group.
 pub fn make_first_label(alloc: Global, stack: &mut Vec<Value>) -> Result<bool, AllocError>
-    ensures { IfOk result (λ fits. Fits fits (reverse stack.new.items) (after_first_label (reverse stack.old.items))) }
+    ensures { IfOk result (λ fits. Fits fits (reverse stack.new.items) (after_statement_action statement_action.FirstLabel (reverse stack.old.items))) }
 {
     let Some(label_made) = take_label(stack) else {
         return Ok(false);
@@ -220,7 +221,7 @@ pub fn make_first_label(alloc: Global, stack: &mut Vec<Value>) -> Result<bool, A
 
 /// One more label of a group.
 pub fn make_add_label(stack: &mut Vec<Value>) -> Result<bool, AllocError>
-    ensures { IfOk result (λ fits. Fits fits (reverse stack.new.items) (after_add_label (reverse stack.old.items))) }
+    ensures { IfOk result (λ fits. Fits fits (reverse stack.new.items) (after_statement_action statement_action.AddLabel (reverse stack.old.items))) }
 {
     let label_made = take_label(stack);
     let labels = take_labels(stack);
@@ -234,7 +235,7 @@ pub fn make_add_label(stack: &mut Vec<Value>) -> Result<bool, AllocError>
 
 /// The end of the labels of a group.
 pub fn make_labelled(alloc: Global, stack: &mut Vec<Value>) -> Result<bool, AllocError>
-    ensures { IfOk result (λ fits. Fits fits (reverse stack.new.items) (after_labelled (reverse stack.old.items))) }
+    ensures { IfOk result (λ fits. Fits fits (reverse stack.new.items) (after_statement_action statement_action.Labelled (reverse stack.old.items))) }
 {
     let Some(labels) = take_labels(stack) else {
         return Ok(false);
@@ -252,7 +253,7 @@ pub fn make_labelled(alloc: Global, stack: &mut Vec<Value>) -> Result<bool, Allo
 
 /// One more statement of a group.
 pub fn make_add_to_group(stack: &mut Vec<Value>) -> Result<bool, AllocError>
-    ensures { IfOk result (λ fits. Fits fits (reverse stack.new.items) (after_add_to_group (reverse stack.old.items))) }
+    ensures { IfOk result (λ fits. Fits fits (reverse stack.new.items) (after_statement_action statement_action.AddToGroup (reverse stack.old.items))) }
 {
     let part = take_statement(stack);
     let labelled = take_labelled(stack);
@@ -266,7 +267,7 @@ pub fn make_add_to_group(stack: &mut Vec<Value>) -> Result<bool, AllocError>
 
 /// `Group = Label { Label } { Statement }`
 pub fn make_group(stack: &mut Vec<Value>) -> Result<bool, AllocError>
-    ensures { IfOk result (λ fits. Fits fits (reverse stack.new.items) (after_group (reverse stack.old.items))) }
+    ensures { IfOk result (λ fits. Fits fits (reverse stack.new.items) (after_statement_action statement_action.Group (reverse stack.old.items))) }
 {
     let Some(labelled) = take_labelled(stack) else {
         return Ok(false);
@@ -277,7 +278,7 @@ pub fn make_group(stack: &mut Vec<Value>) -> Result<bool, AllocError>
 
 /// No groups.
 pub fn make_no_groups(alloc: Global, stack: &mut Vec<Value>) -> Result<bool, AllocError>
-    ensures { IfOk result (λ fits. Fits fits (reverse stack.new.items) (after_no_groups (reverse stack.old.items))) }
+    ensures { IfOk result (λ fits. Fits fits (reverse stack.new.items) (after_statement_action statement_action.NoGroups (reverse stack.old.items))) }
 {
     put(stack, Value::Switch(SwitchValue::Groups(Items::new(alloc))))?;
     Ok(true)
@@ -285,7 +286,7 @@ pub fn make_no_groups(alloc: Global, stack: &mut Vec<Value>) -> Result<bool, All
 
 /// One more group.
 pub fn make_add_group(stack: &mut Vec<Value>) -> Result<bool, AllocError>
-    ensures { IfOk result (λ fits. Fits fits (reverse stack.new.items) (after_add_group (reverse stack.old.items))) }
+    ensures { IfOk result (λ fits. Fits fits (reverse stack.new.items) (after_statement_action statement_action.AddGroup (reverse stack.old.items))) }
 {
     let group = take_group(stack);
     let groups = take_groups(stack);
@@ -299,7 +300,7 @@ pub fn make_add_group(stack: &mut Vec<Value>) -> Result<bool, AllocError>
 
 /// An empty block.
 pub fn make_no_items(alloc: Global, stack: &mut Vec<Value>) -> Result<bool, AllocError>
-    ensures { IfOk result (λ fits. Fits fits (reverse stack.new.items) (after_no_items (reverse stack.old.items))) }
+    ensures { IfOk result (λ fits. Fits fits (reverse stack.new.items) (after_statement_action statement_action.NoItems (reverse stack.old.items))) }
 {
     put(
         stack,
@@ -310,7 +311,7 @@ pub fn make_no_items(alloc: Global, stack: &mut Vec<Value>) -> Result<bool, Allo
 
 /// One more declaration of a block.
 pub fn make_add_local(stack: &mut Vec<Value>) -> Result<bool, AllocError>
-    ensures { IfOk result (λ fits. Fits fits (reverse stack.new.items) (after_add_local (reverse stack.old.items))) }
+    ensures { IfOk result (λ fits. Fits fits (reverse stack.new.items) (after_statement_action statement_action.AddLocal (reverse stack.old.items))) }
 {
     let part = take_local(stack);
     let parts = take_parts(stack);
@@ -324,7 +325,7 @@ pub fn make_add_local(stack: &mut Vec<Value>) -> Result<bool, AllocError>
 
 /// One more statement of a block.
 pub fn make_add_statement(stack: &mut Vec<Value>) -> Result<bool, AllocError>
-    ensures { IfOk result (λ fits. Fits fits (reverse stack.new.items) (after_add_statement (reverse stack.old.items))) }
+    ensures { IfOk result (λ fits. Fits fits (reverse stack.new.items) (after_statement_action statement_action.AddStatement (reverse stack.old.items))) }
 {
     let part = take_statement(stack);
     let parts = take_parts(stack);
@@ -338,7 +339,7 @@ pub fn make_add_statement(stack: &mut Vec<Value>) -> Result<bool, AllocError>
 
 /// `Block = "{" { Local | Statement } "}"`
 pub fn make_block(stack: &mut Vec<Value>) -> Result<bool, AllocError>
-    ensures { IfOk result (λ fits. Fits fits (reverse stack.new.items) (after_block (reverse stack.old.items))) }
+    ensures { IfOk result (λ fits. Fits fits (reverse stack.new.items) (after_statement_action statement_action.Block (reverse stack.old.items))) }
 {
     let items = take_parts(stack);
     let place = take_place(stack);
@@ -354,7 +355,7 @@ pub fn make_block(stack: &mut Vec<Value>) -> Result<bool, AllocError>
 
 /// `Statement = Block`
 pub fn make_compound(stack: &mut Vec<Value>) -> Result<bool, AllocError>
-    ensures { IfOk result (λ fits. Fits fits (reverse stack.new.items) (after_compound (reverse stack.old.items))) }
+    ensures { IfOk result (λ fits. Fits fits (reverse stack.new.items) (after_statement_action statement_action.Compound (reverse stack.old.items))) }
 {
     let Some(part) = take_block(stack) else {
         return Ok(false);
@@ -368,7 +369,7 @@ pub fn make_compound(stack: &mut Vec<Value>) -> Result<bool, AllocError>
 
 /// `Statement = ";"`
 pub fn make_empty(stack: &mut Vec<Value>) -> Result<bool, AllocError>
-    ensures { IfOk result (λ fits. Fits fits (reverse stack.new.items) (after_empty (reverse stack.old.items))) }
+    ensures { IfOk result (λ fits. Fits fits (reverse stack.new.items) (after_statement_action statement_action.Empty (reverse stack.old.items))) }
 {
     let Some(place) = take_place(stack) else {
         return Ok(false);
@@ -382,7 +383,7 @@ pub fn make_empty(stack: &mut Vec<Value>) -> Result<bool, AllocError>
 
 /// `Statement = Simple ";"`
 pub fn make_simple(stack: &mut Vec<Value>) -> Result<bool, AllocError>
-    ensures { IfOk result (λ fits. Fits fits (reverse stack.new.items) (after_simple (reverse stack.old.items))) }
+    ensures { IfOk result (λ fits. Fits fits (reverse stack.new.items) (after_statement_action statement_action.Simple (reverse stack.old.items))) }
 {
     let Some(part) = take_simple(stack) else {
         return Ok(false);
@@ -396,7 +397,7 @@ pub fn make_simple(stack: &mut Vec<Value>) -> Result<bool, AllocError>
 
 /// `Statement = "if" "(" Expression ")" Statement`
 pub fn make_if_alone(alloc: Global, stack: &mut Vec<Value>) -> Result<bool, AllocError>
-    ensures { IfOk result (λ fits. Fits fits (reverse stack.new.items) (after_if_alone (reverse stack.old.items))) }
+    ensures { IfOk result (λ fits. Fits fits (reverse stack.new.items) (after_statement_action statement_action.IfAlone (reverse stack.old.items))) }
 {
     let first = take_statement(stack);
     let condition = take_expression(stack);
@@ -414,7 +415,7 @@ pub fn make_if_alone(alloc: Global, stack: &mut Vec<Value>) -> Result<bool, Allo
 
 /// `Statement = "if" "(" Expression ")" Statement "else" Statement`
 pub fn make_if_else(alloc: Global, stack: &mut Vec<Value>) -> Result<bool, AllocError>
-    ensures { IfOk result (λ fits. Fits fits (reverse stack.new.items) (after_if_else (reverse stack.old.items))) }
+    ensures { IfOk result (λ fits. Fits fits (reverse stack.new.items) (after_statement_action statement_action.IfElse (reverse stack.old.items))) }
 {
     let second = take_statement(stack);
     let first = take_statement(stack);
@@ -436,7 +437,7 @@ pub fn make_if_else(alloc: Global, stack: &mut Vec<Value>) -> Result<bool, Alloc
 
 /// `Statement = "while" "(" Expression ")" Statement`
 pub fn make_while(alloc: Global, stack: &mut Vec<Value>) -> Result<bool, AllocError>
-    ensures { IfOk result (λ fits. Fits fits (reverse stack.new.items) (after_while (reverse stack.old.items))) }
+    ensures { IfOk result (λ fits. Fits fits (reverse stack.new.items) (after_statement_action statement_action.While (reverse stack.old.items))) }
 {
     let body = take_statement(stack);
     let condition = take_expression(stack);
@@ -454,7 +455,7 @@ pub fn make_while(alloc: Global, stack: &mut Vec<Value>) -> Result<bool, AllocEr
 
 /// `Statement = "do" Statement "while" "(" Expression ")" ";"`
 pub fn make_do(alloc: Global, stack: &mut Vec<Value>) -> Result<bool, AllocError>
-    ensures { IfOk result (λ fits. Fits fits (reverse stack.new.items) (after_do (reverse stack.old.items))) }
+    ensures { IfOk result (λ fits. Fits fits (reverse stack.new.items) (after_statement_action statement_action.Do (reverse stack.old.items))) }
 {
     let condition = take_expression(stack);
     let body = take_statement(stack);
@@ -472,7 +473,7 @@ pub fn make_do(alloc: Global, stack: &mut Vec<Value>) -> Result<bool, AllocError
 
 /// `Statement = "switch" "(" Expression ")" "{" { Group } "}"`
 pub fn make_switch(stack: &mut Vec<Value>) -> Result<bool, AllocError>
-    ensures { IfOk result (λ fits. Fits fits (reverse stack.new.items) (after_switch (reverse stack.old.items))) }
+    ensures { IfOk result (λ fits. Fits fits (reverse stack.new.items) (after_statement_action statement_action.Switch (reverse stack.old.items))) }
 {
     let groups = take_groups(stack);
     let given = take_expression(stack);
@@ -489,7 +490,7 @@ pub fn make_switch(stack: &mut Vec<Value>) -> Result<bool, AllocError>
 
 /// `Statement = "break" ";"`
 pub fn make_break(stack: &mut Vec<Value>) -> Result<bool, AllocError>
-    ensures { IfOk result (λ fits. Fits fits (reverse stack.new.items) (after_break (reverse stack.old.items))) }
+    ensures { IfOk result (λ fits. Fits fits (reverse stack.new.items) (after_statement_action statement_action.Break (reverse stack.old.items))) }
 {
     let Some(place) = take_place(stack) else {
         return Ok(false);
@@ -503,7 +504,7 @@ pub fn make_break(stack: &mut Vec<Value>) -> Result<bool, AllocError>
 
 /// `Statement = "continue" ";"`
 pub fn make_continue(stack: &mut Vec<Value>) -> Result<bool, AllocError>
-    ensures { IfOk result (λ fits. Fits fits (reverse stack.new.items) (after_continue (reverse stack.old.items))) }
+    ensures { IfOk result (λ fits. Fits fits (reverse stack.new.items) (after_statement_action statement_action.Continue (reverse stack.old.items))) }
 {
     let Some(place) = take_place(stack) else {
         return Ok(false);
@@ -517,7 +518,7 @@ pub fn make_continue(stack: &mut Vec<Value>) -> Result<bool, AllocError>
 
 /// `Statement = "return" [Init] ";"`
 pub fn make_return(stack: &mut Vec<Value>) -> Result<bool, AllocError>
-    ensures { IfOk result (λ fits. Fits fits (reverse stack.new.items) (after_return (reverse stack.old.items))) }
+    ensures { IfOk result (λ fits. Fits fits (reverse stack.new.items) (after_statement_action statement_action.Return (reverse stack.old.items))) }
 {
     let given = take_initializer_option(stack);
     let place = take_place(stack);
@@ -533,7 +534,7 @@ pub fn make_return(stack: &mut Vec<Value>) -> Result<bool, AllocError>
 
 /// `Statement = "assert" "(" Expression ")" ";"`
 pub fn make_assert(stack: &mut Vec<Value>) -> Result<bool, AllocError>
-    ensures { IfOk result (λ fits. Fits fits (reverse stack.new.items) (after_assert (reverse stack.old.items))) }
+    ensures { IfOk result (λ fits. Fits fits (reverse stack.new.items) (after_statement_action statement_action.Assert (reverse stack.old.items))) }
 {
     let condition = take_expression(stack);
     let place = take_place(stack);
@@ -549,7 +550,7 @@ pub fn make_assert(stack: &mut Vec<Value>) -> Result<bool, AllocError>
 
 /// `Statement = "__CPROVER_assert" "(" Expression "," STRING ")" ";"`
 pub fn make_cprover_assert(stack: &mut Vec<Value>) -> Result<bool, AllocError>
-    ensures { IfOk result (λ fits. Fits fits (reverse stack.new.items) (after_cprover_assert (reverse stack.old.items))) }
+    ensures { IfOk result (λ fits. Fits fits (reverse stack.new.items) (after_statement_action statement_action.CproverAssert (reverse stack.old.items))) }
 {
     let condition = take_expression(stack);
     let place = take_place(stack);
@@ -565,7 +566,7 @@ pub fn make_cprover_assert(stack: &mut Vec<Value>) -> Result<bool, AllocError>
 
 /// `Statement = "__CPROVER_assume" "(" Expression ")" ";"`
 pub fn make_cprover_assume(stack: &mut Vec<Value>) -> Result<bool, AllocError>
-    ensures { IfOk result (λ fits. Fits fits (reverse stack.new.items) (after_cprover_assume (reverse stack.old.items))) }
+    ensures { IfOk result (λ fits. Fits fits (reverse stack.new.items) (after_statement_action statement_action.CproverAssume (reverse stack.old.items))) }
 {
     let condition = take_expression(stack);
     let place = take_place(stack);
@@ -581,7 +582,7 @@ pub fn make_cprover_assume(stack: &mut Vec<Value>) -> Result<bool, AllocError>
 
 /// `Statement = "for" "(" ForFirst [Expression] ";" [Simple] ")" Statement`
 pub fn make_for(alloc: Global, stack: &mut Vec<Value>) -> Result<bool, AllocError>
-    ensures { IfOk result (λ fits. Fits fits (reverse stack.new.items) (after_for (reverse stack.old.items))) }
+    ensures { IfOk result (λ fits. Fits fits (reverse stack.new.items) (after_statement_action statement_action.For (reverse stack.old.items))) }
 {
     let body = take_statement(stack);
     let step = take_simple_option(stack);

@@ -8,7 +8,10 @@ use Rattle.src_text.specs.Place.{place_at}
 use Rattle.src_text.specs.declared.refusal.Place.{Place}
 use Rattle.c_tokens.specs.Directives.{c_tokens}
 use Rattle.c_tokens.specs.declared.directives.CToken.{CToken}
-use Rattle.c_actions.specs.Acts.{after_token_action, after_expression_action, after_declaration_action, after_statement_action, after_file_action, after_action}
+use Rattle.c_actions.specs.Acts.{after_token_action, after_file_action, after_action}
+use Rattle.c_actions.specs.ExpressionActions.{after_expression_action}
+use Rattle.c_actions.specs.DeclarationActions.{after_declaration_action}
+use Rattle.c_actions.specs.StatementActions.{after_statement_action}
 use Rattle.c_actions.specs.Numbers.{action_of}
 use Rattle.c_actions.specs.Reading.{C, kinds_of, token_before, end_of, spelling, built, actions_of, IsCSource}
 use Rattle.c_actions.specs.declared.actions.Action.{Action}

@@ -8,13 +8,13 @@ use Rattle.ll_actions.specs.Steps.{steps_of}
 use Rattle.text_scan.specs.declared.scanner.Token.{Token}
 use Rattle.text_scan.specs.Words.{run_len}
 use Rattle.v_tokens.specs.Rules.{kind_of, is_blank_line, is_space}
-use Rattle.v_actions.specs.Acts.{action_act, built}
-use Rattle.v_actions.specs.Connect.{connect_act}
-use Rattle.v_actions.specs.Declare.{declare_act}
-use Rattle.v_actions.specs.Expr.{expr_act}
-use Rattle.v_actions.specs.Module.{module_act}
+use Rattle.v_actions.specs.Acts.{after_action, built}
+use Rattle.v_actions.specs.ConnectionActions.{after_connection_action}
+use Rattle.v_actions.specs.DeclarationActions.{after_declaration_action}
+use Rattle.v_actions.specs.ExpressionActions.{after_expression_action}
+use Rattle.v_actions.specs.ModuleActions.{after_module_action}
 use Rattle.v_actions.specs.Numbers.{action_of}
-use Rattle.v_actions.specs.Stmt.{stmt_act}
+use Rattle.v_actions.specs.StatementActions.{after_statement_action}
 use Rattle.v_actions.specs.Reading.{V, kinds_of, tokens_in, places_of, lexemes, actions_of, IsVerilogSource}
 use Rattle.v_actions.specs.Tokens.{Lexemes, place_in, bytes_of, bytes_at, based_part, base_of, is_signed, without_spaces, token_value}
 use Rattle.v_actions.specs.declared.actions.Action.{Action}
@@ -52,11 +52,11 @@ plain_value x (Read.Binary op) i = token_value x (Read.Binary op) i
 
 abbrev plain_act : Lexemes → Action → ℕ → Values → Option Values
 plain_act x (Action.Token a) i st = Some (plain_value x a (i - 1) ∷ st)
-plain_act x (Action.Expr a) i st = expr_act a st
-plain_act x (Action.Stmt a) i st = stmt_act a st
-plain_act x (Action.Declare a) i st = declare_act a st
-plain_act x (Action.Connect a) i st = connect_act a st
-plain_act x (Action.Module a) i st = module_act a st
+plain_act x (Action.Expression a) i st = after_expression_action a st
+plain_act x (Action.Statement a) i st = after_statement_action a st
+plain_act x (Action.Declaration a) i st = after_declaration_action a st
+plain_act x (Action.Connection a) i st = after_connection_action a st
+plain_act x (Action.Module a) i st = after_module_action a st
 
 abbrev plainly_built : Lexemes → List Step → Values → Option Values
 plainly_built x [] st = Some st
@@ -94,12 +94,12 @@ module _ (x : Lexemes) (h : IsAscii x.text) where
   value_same (Read.Unary op) i = refl
   value_same (Read.Binary op) i = refl
 
-  act_same : (a : Action) (i : ℕ) (st : Values) → action_act x a i st ≡ plain_act x a i st
+  act_same : (a : Action) (i : ℕ) (st : Values) → after_action x a i st ≡ plain_act x a i st
   act_same (Action.Token a) i st = ap (λ value. Some (value ∷ st)) (value_same a (i - 1))
-  act_same (Action.Expr a) i st = refl
-  act_same (Action.Stmt a) i st = refl
-  act_same (Action.Declare a) i st = refl
-  act_same (Action.Connect a) i st = refl
+  act_same (Action.Expression a) i st = refl
+  act_same (Action.Statement a) i st = refl
+  act_same (Action.Declaration a) i st = refl
+  act_same (Action.Connection a) i st = refl
   act_same (Action.Module a) i st = refl
 
   goes_on_same : (ss : List Step) → ((st : Values) → built x ss st ≡ plainly_built x ss st)

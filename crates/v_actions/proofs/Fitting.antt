@@ -4,27 +4,27 @@ use Rattle.std.proofs.Math.ListN.{get_or-map}
 use Rattle.ll_actions.specs.Sorts.{Signature, signature_of}
 use Rattle.v_actions.specs.declared.actions.TokenAction.{TokenAction}
 use Rattle.v_actions.specs.declared.actions.TokenAction.TheVariants as token_action
-use Rattle.v_actions.specs.declared.actions.ExprAction.{ExprAction}
-use Rattle.v_actions.specs.declared.actions.ExprAction.TheVariants as expr_action
-use Rattle.v_actions.specs.declared.actions.StmtAction.{StmtAction}
-use Rattle.v_actions.specs.declared.actions.StmtAction.TheVariants as stmt_action
-use Rattle.v_actions.specs.declared.actions.DeclareAction.{DeclareAction}
-use Rattle.v_actions.specs.declared.actions.DeclareAction.TheVariants as declare_action
-use Rattle.v_actions.specs.declared.actions.ConnectAction.{ConnectAction}
-use Rattle.v_actions.specs.declared.actions.ConnectAction.TheVariants as connect_action
+use Rattle.v_actions.specs.declared.actions.ExpressionAction.{ExpressionAction}
+use Rattle.v_actions.specs.declared.actions.ExpressionAction.TheVariants as expr_action
+use Rattle.v_actions.specs.declared.actions.StatementAction.{StatementAction}
+use Rattle.v_actions.specs.declared.actions.StatementAction.TheVariants as stmt_action
+use Rattle.v_actions.specs.declared.actions.DeclarationAction.{DeclarationAction}
+use Rattle.v_actions.specs.declared.actions.DeclarationAction.TheVariants as declare_action
+use Rattle.v_actions.specs.declared.actions.ConnectionAction.{ConnectionAction}
+use Rattle.v_actions.specs.declared.actions.ConnectionAction.TheVariants as connect_action
 use Rattle.v_actions.specs.declared.actions.ModuleAction.{ModuleAction}
 use Rattle.v_actions.specs.declared.actions.ModuleAction.TheVariants as module_action
 use Rattle.v_actions.specs.declared.actions.Action.{Action}
 use Rattle.v_actions.specs.declared.actions.Action.TheVariants as action
 use Rattle.v_actions.specs.declared.actions.TheConstants.{ACTIONS}
-use Rattle.v_actions.specs.Acts.{action_act}
-use Rattle.v_actions.specs.Connect.{connect_act}
-use Rattle.v_actions.specs.Declare.{declare_act}
-use Rattle.v_actions.specs.Expr.{expr_act}
-use Rattle.v_actions.specs.Module.{module_act}
+use Rattle.v_actions.specs.Acts.{after_action}
+use Rattle.v_actions.specs.ConnectionActions.{after_connection_action}
+use Rattle.v_actions.specs.DeclarationActions.{after_declaration_action}
+use Rattle.v_actions.specs.ExpressionActions.{after_expression_action}
+use Rattle.v_actions.specs.ModuleActions.{after_module_action}
 use Rattle.v_actions.specs.Numbers.{action_of}
 use Rattle.v_actions.specs.Sorts.{sorts_of}
-use Rattle.v_actions.specs.Stmt.{stmt_act}
+use Rattle.v_actions.specs.StatementActions.{after_statement_action}
 use Rattle.v_actions.specs.Tokens.{Lexemes, token_value}
 use Rattle.v_stack.specs.Values.{Values}
 use Rattle.v_grammar.specs.Sorts.{SIGNATURES}
@@ -48,7 +48,7 @@ signature_of_token (token_action.Binary op) = record { takes = []; gives = 8 }
 signature_of_token token_action.Decimal = record { takes = []; gives = 4 }
 signature_of_token token_action.Based = record { takes = []; gives = 5 }
 
-abbrev signature_of_expr : ExprAction → Signature
+abbrev signature_of_expr : ExpressionAction → Signature
 signature_of_expr expr_action.NoExprs = record { takes = []; gives = 0 }
 signature_of_expr expr_action.DecimalLiteral = record { takes = 4 ∷ []; gives = 9 }
 signature_of_expr expr_action.BasedLiteral = record { takes = 5 ∷ []; gives = 9 }
@@ -72,7 +72,7 @@ signature_of_expr expr_action.FirstExpr = record { takes = 9 ∷ []; gives = 0 }
 signature_of_expr expr_action.SomeExpr = record { takes = 9 ∷ []; gives = 11 }
 signature_of_expr expr_action.NoExpr = record { takes = []; gives = 11 }
 
-abbrev signature_of_stmt : StmtAction → Signature
+abbrev signature_of_stmt : StatementAction → Signature
 signature_of_stmt stmt_action.TargetName = record { takes = 2 ∷ []; gives = 12 }
 signature_of_stmt stmt_action.TargetSelect = record { takes = 10 ∷ 2 ∷ []; gives = 12 }
 signature_of_stmt stmt_action.TargetConcatenation = record { takes = 13 ∷ 1 ∷ []; gives = 12 }
@@ -97,7 +97,7 @@ signature_of_stmt stmt_action.NoCaseItems = record { takes = []; gives = 18 }
 signature_of_stmt stmt_action.AddCaseItem = record { takes = 19 ∷ 18 ∷ []; gives = 18 }
 signature_of_stmt stmt_action.For = record { takes = 15 ∷ 9 ∷ 2 ∷ 9 ∷ 9 ∷ 2 ∷ 1 ∷ []; gives = 15 }
 
-abbrev signature_of_declare : DeclareAction → Signature
+abbrev signature_of_declare : DeclarationAction → Signature
 signature_of_declare declare_action.Range = record { takes = 9 ∷ 9 ∷ 1 ∷ []; gives = 20 }
 signature_of_declare declare_action.SomeRange = record { takes = 20 ∷ []; gives = 21 }
 signature_of_declare declare_action.NoRange = record { takes = []; gives = 21 }
@@ -125,7 +125,7 @@ signature_of_declare declare_action.Memory = record { takes = 20 ∷ 2 ∷ []; g
 signature_of_declare declare_action.NoRegisters = record { takes = []; gives = 32 }
 signature_of_declare declare_action.AddRegister = record { takes = 31 ∷ 32 ∷ []; gives = 32 }
 
-abbrev signature_of_connect : ConnectAction → Signature
+abbrev signature_of_connect : ConnectionAction → Signature
 signature_of_connect connect_action.Ordered = record { takes = 9 ∷ []; gives = 33 }
 signature_of_connect connect_action.NoOrdered = record { takes = []; gives = 34 }
 signature_of_connect connect_action.AddOrdered = record { takes = 33 ∷ 34 ∷ []; gives = 34 }
@@ -175,10 +175,10 @@ signature_of_module module_action.Source = record { takes = 50 ∷ []; gives = 5
 
 abbrev pub signature : Action → Signature
 signature (action.Token a) = signature_of_token a
-signature (action.Expr a) = signature_of_expr a
-signature (action.Stmt a) = signature_of_stmt a
-signature (action.Declare a) = signature_of_declare a
-signature (action.Connect a) = signature_of_connect a
+signature (action.Expression a) = signature_of_expr a
+signature (action.Statement a) = signature_of_stmt a
+signature (action.Declaration a) = signature_of_declare a
+signature (action.Connection a) = signature_of_connect a
 signature (action.Module a) = signature_of_module a
 
 signatures : map signature ACTIONS ≡ SIGNATURES
@@ -187,7 +187,7 @@ signatures = refl
 
 pub signature_at : (number : ℕ) → signature_of SIGNATURES number ≡ signature (action_of number)
 signature_at number =
-    ap (λ gs. slice_index_or gs number (record { takes = []; gives = 0 })) (sym signatures) ∙ get_or-map signature ACTIONS number (action.Expr expr_action.NoExprs)
+    ap (λ gs. slice_index_or gs number (record { takes = []; gives = 0 })) (sym signatures) ∙ get_or-map signature ACTIONS number (action.Expression expr_action.NoExprs)
 
 fit_token : (x : Lexemes) (a : TokenAction) (i : ℕ) (st : Values) (rest : List ℕ) → sorts_of st ≡ (signature_of_token a).takes ++ rest →
     Makes (signature_of_token a).gives rest st (Some (token_value x a i ∷ st))
@@ -200,7 +200,7 @@ fit_token x (token_action.Binary op) i st rest e = done 8 e
 fit_token x token_action.Decimal i st rest e = done 4 e
 fit_token x token_action.Based i st rest e = done 5 e
 
-fit_expr : (a : ExprAction) (st : Values) (rest : List ℕ) → sorts_of st ≡ (signature_of_expr a).takes ++ rest → Makes (signature_of_expr a).gives rest st (expr_act a st)
+fit_expr : (a : ExpressionAction) (st : Values) (rest : List ℕ) → sorts_of st ≡ (signature_of_expr a).takes ++ rest → Makes (signature_of_expr a).gives rest st (after_expression_action a st)
 fit_expr expr_action.NoExprs st rest e = done 0 e
 fit_expr expr_action.DecimalLiteral st rest e = has_decimal (Makes 9 rest) _ st _ e (λ x0 st0 e0. done 9 e0)
 fit_expr expr_action.BasedLiteral st rest e = has_based (Makes 9 rest) _ st _ e (λ x0 st0 e0. done 9 e0)
@@ -224,7 +224,7 @@ fit_expr expr_action.FirstExpr st rest e = has_expr (Makes 0 rest) _ st _ e (λ 
 fit_expr expr_action.SomeExpr st rest e = has_expr (Makes 11 rest) _ st _ e (λ x0 st0 e0. done 11 e0)
 fit_expr expr_action.NoExpr st rest e = done 11 e
 
-fit_stmt : (a : StmtAction) (st : Values) (rest : List ℕ) → sorts_of st ≡ (signature_of_stmt a).takes ++ rest → Makes (signature_of_stmt a).gives rest st (stmt_act a st)
+fit_stmt : (a : StatementAction) (st : Values) (rest : List ℕ) → sorts_of st ≡ (signature_of_stmt a).takes ++ rest → Makes (signature_of_stmt a).gives rest st (after_statement_action a st)
 fit_stmt stmt_action.TargetName st rest e = has_name (Makes 12 rest) _ st _ e (λ x0 st0 e0. done 12 e0)
 fit_stmt stmt_action.TargetSelect st rest e = has_selection (Makes 12 rest) _ st _ e (λ x0 st0 e0. has_name (Makes 12 rest) _ st0 _ e0 (λ x1 st1 e1. done 12 e1))
 fit_stmt stmt_action.TargetConcatenation st rest e = has_targets (Makes 12 rest) _ st _ e (λ x0 st0 e0. has_place (Makes 12 rest) _ st0 _ e0 (λ x1 st1 e1. done 12 e1))
@@ -249,7 +249,7 @@ fit_stmt stmt_action.NoCaseItems st rest e = done 18 e
 fit_stmt stmt_action.AddCaseItem st rest e = has_case_item (Makes 18 rest) _ st _ e (λ x0 st0 e0. has_case_items (Makes 18 rest) _ st0 _ e0 (λ x1 st1 e1. done 18 e1))
 fit_stmt stmt_action.For st rest e = has_stmt (Makes 15 rest) _ st _ e (λ x0 st0 e0. has_expr (Makes 15 rest) _ st0 _ e0 (λ x1 st1 e1. has_name (Makes 15 rest) _ st1 _ e1 (λ x2 st2 e2. has_expr (Makes 15 rest) _ st2 _ e2 (λ x3 st3 e3. has_expr (Makes 15 rest) _ st3 _ e3 (λ x4 st4 e4. has_name (Makes 15 rest) _ st4 _ e4 (λ x5 st5 e5. has_place (Makes 15 rest) _ st5 _ e5 (λ x6 st6 e6. done 15 e6)))))))
 
-fit_declare : (a : DeclareAction) (st : Values) (rest : List ℕ) → sorts_of st ≡ (signature_of_declare a).takes ++ rest → Makes (signature_of_declare a).gives rest st (declare_act a st)
+fit_declare : (a : DeclarationAction) (st : Values) (rest : List ℕ) → sorts_of st ≡ (signature_of_declare a).takes ++ rest → Makes (signature_of_declare a).gives rest st (after_declaration_action a st)
 fit_declare declare_action.Range st rest e = has_expr (Makes 20 rest) _ st _ e (λ x0 st0 e0. has_expr (Makes 20 rest) _ st0 _ e0 (λ x1 st1 e1. has_place (Makes 20 rest) _ st1 _ e1 (λ x2 st2 e2. done 20 e2)))
 fit_declare declare_action.SomeRange st rest e = has_range (Makes 21 rest) _ st _ e (λ x0 st0 e0. done 21 e0)
 fit_declare declare_action.NoRange st rest e = done 21 e
@@ -277,7 +277,7 @@ fit_declare declare_action.Memory st rest e = has_range (Makes 31 rest) _ st _ e
 fit_declare declare_action.NoRegisters st rest e = done 32 e
 fit_declare declare_action.AddRegister st rest e = has_register (Makes 32 rest) _ st _ e (λ x0 st0 e0. has_registers (Makes 32 rest) _ st0 _ e0 (λ x1 st1 e1. done 32 e1))
 
-fit_connect : (a : ConnectAction) (st : Values) (rest : List ℕ) → sorts_of st ≡ (signature_of_connect a).takes ++ rest → Makes (signature_of_connect a).gives rest st (connect_act a st)
+fit_connect : (a : ConnectionAction) (st : Values) (rest : List ℕ) → sorts_of st ≡ (signature_of_connect a).takes ++ rest → Makes (signature_of_connect a).gives rest st (after_connection_action a st)
 fit_connect connect_action.Ordered st rest e = has_expr (Makes 33 rest) _ st _ e (λ x0 st0 e0. done 33 e0)
 fit_connect connect_action.NoOrdered st rest e = done 34 e
 fit_connect connect_action.AddOrdered st rest e = has_ordered (Makes 34 rest) _ st _ e (λ x0 st0 e0. has_ordered_values (Makes 34 rest) _ st0 _ e0 (λ x1 st1 e1. done 34 e1))
@@ -299,7 +299,7 @@ fit_connect connect_action.AnyEvent st rest e = done 43 e
 fit_connect connect_action.PosedgeEvent st rest e = has_name (Makes 43 rest) _ st _ e (λ x0 st0 e0. done 43 e0)
 fit_connect connect_action.NamesEvent st rest e = has_names (Makes 43 rest) _ st _ e (λ x0 st0 e0. done 43 e0)
 
-fit_module : (a : ModuleAction) (st : Values) (rest : List ℕ) → sorts_of st ≡ (signature_of_module a).takes ++ rest → Makes (signature_of_module a).gives rest st (module_act a st)
+fit_module : (a : ModuleAction) (st : Values) (rest : List ℕ) → sorts_of st ≡ (signature_of_module a).takes ++ rest → Makes (signature_of_module a).gives rest st (after_module_action a st)
 fit_module module_action.PortItem st rest e = has_declared_names (Makes 44 rest) _ st _ e (λ x0 st0 e0. has_range_option (Makes 44 rest) _ st0 _ e0 (λ x1 st1 e1. has_sign (Makes 44 rest) _ st1 _ e1 (λ x2 st2 e2. has_net_kind (Makes 44 rest) _ st2 _ e2 (λ x3 st3 e3. has_direction (Makes 44 rest) _ st3 _ e3 (λ x4 st4 e4. done 44 e4)))))
 fit_module module_action.NetItem st rest e = has_declarators (Makes 44 rest) _ st _ e (λ x0 st0 e0. has_range_option (Makes 44 rest) _ st0 _ e0 (λ x1 st1 e1. has_sign (Makes 44 rest) _ st1 _ e1 (λ x2 st2 e2. has_place (Makes 44 rest) _ st2 _ e2 (λ x3 st3 e3. done 44 e3))))
 fit_module module_action.RegItem st rest e = has_registers (Makes 44 rest) _ st _ e (λ x0 st0 e0. has_range_option (Makes 44 rest) _ st0 _ e0 (λ x1 st1 e1. has_sign (Makes 44 rest) _ st1 _ e1 (λ x2 st2 e2. has_place (Makes 44 rest) _ st2 _ e2 (λ x3 st3 e3. done 44 e3))))
@@ -327,10 +327,10 @@ fit_module module_action.Source st rest e = has_modules (Makes 51 rest) _ st _ e
 
 -- an action that finds the sorts that it takes gives a value of the sort that it gives
 pub fit : (x : Lexemes) (a : Action) (i : ℕ) (st : Values) (rest : List ℕ) → sorts_of st ≡ (signature a).takes ++ rest →
-    Makes (signature a).gives rest st (action_act x a i st)
+    Makes (signature a).gives rest st (after_action x a i st)
 fit x (action.Token a) i st rest e = fit_token x a (i - 1) st rest e
-fit x (action.Expr a) i st rest e = fit_expr a st rest e
-fit x (action.Stmt a) i st rest e = fit_stmt a st rest e
-fit x (action.Declare a) i st rest e = fit_declare a st rest e
-fit x (action.Connect a) i st rest e = fit_connect a st rest e
+fit x (action.Expression a) i st rest e = fit_expr a st rest e
+fit x (action.Statement a) i st rest e = fit_stmt a st rest e
+fit x (action.Declaration a) i st rest e = fit_declare a st rest e
+fit x (action.Connection a) i st rest e = fit_connect a st rest e
 fit x (action.Module a) i st rest e = fit_module a st rest e

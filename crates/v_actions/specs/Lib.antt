@@ -1,9 +1,9 @@
 pub mod Tokens
-pub mod Expr
-pub mod Stmt
-pub mod Declare
-pub mod Connect
-pub mod Module
+pub mod ExpressionActions
+pub mod StatementActions
+pub mod DeclarationActions
+pub mod ConnectionActions
+pub mod ModuleActions
 pub mod Numbers
 pub mod Acts
 pub mod Sorts

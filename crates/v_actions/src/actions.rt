@@ -28,7 +28,7 @@ pub enum TokenAction {
 
 /// What makes an expression of the values before it.
 #[derive(Clone, Copy)]
-pub enum ExprAction {
+pub enum ExpressionAction {
     /// `12`
     DecimalLiteral,
     /// `'hf`
@@ -77,7 +77,7 @@ pub enum ExprAction {
 
 /// What makes a statement of the values before it.
 #[derive(Clone, Copy)]
-pub enum StmtAction {
+pub enum StatementAction {
     /// `name`
     TargetName,
     /// `name [ selection ]`
@@ -128,7 +128,7 @@ pub enum StmtAction {
 
 /// What makes a part of a declaration of the values before it.
 #[derive(Clone, Copy)]
-pub enum DeclareAction {
+pub enum DeclarationAction {
     /// `[ high : low ]`
     Range,
     /// A range that is given.
@@ -185,7 +185,7 @@ pub enum DeclareAction {
 
 /// What makes a connection, a continuous assignment or an event of the values before it.
 #[derive(Clone, Copy)]
-pub enum ConnectAction {
+pub enum ConnectionAction {
     /// A connection by position.
     Ordered,
     /// No connections by position yet.
@@ -285,16 +285,16 @@ pub enum ModuleAction {
 #[derive(Clone, Copy)]
 pub enum Action {
     Token(TokenAction),
-    Expr(ExprAction),
-    Stmt(StmtAction),
-    Declare(DeclareAction),
-    Connect(ConnectAction),
+    Expression(ExpressionAction),
+    Statement(StatementAction),
+    Declaration(DeclarationAction),
+    Connection(ConnectionAction),
     Module(ModuleAction),
 }
 
 /// The actions in the order of their numbers, as `verilog.sorts` has them.
 pub static ACTIONS: [Action; 153] = [
-    Action::Expr(ExprAction::NoExprs),
+    Action::Expression(ExpressionAction::NoExprs),
     Action::Token(TokenAction::Place),
     Action::Token(TokenAction::Name),
     Action::Token(TokenAction::Declared),
@@ -333,96 +333,96 @@ pub static ACTIONS: [Action; 153] = [
     Action::Token(TokenAction::Binary(BinaryOp::Multiply)),
     Action::Token(TokenAction::Binary(BinaryOp::Divide)),
     Action::Token(TokenAction::Binary(BinaryOp::Remainder)),
-    Action::Expr(ExprAction::DecimalLiteral),
-    Action::Expr(ExprAction::BasedLiteral),
-    Action::Expr(ExprAction::SizedLiteral),
-    Action::Expr(ExprAction::NameAlone),
-    Action::Expr(ExprAction::Select),
-    Action::Expr(ExprAction::Unary),
-    Action::Expr(ExprAction::Binary),
-    Action::Expr(ExprAction::Conditional),
-    Action::Expr(ExprAction::Parentheses),
-    Action::Expr(ExprAction::Concatenation),
-    Action::Expr(ExprAction::Replication),
-    Action::Expr(ExprAction::SignedCall),
-    Action::Expr(ExprAction::UnsignedCall),
-    Action::Expr(ExprAction::IndexSelection),
-    Action::Expr(ExprAction::RangeSelection),
-    Action::Expr(ExprAction::UpSelection),
-    Action::Expr(ExprAction::DownSelection),
-    Action::Expr(ExprAction::AddExpr),
-    Action::Expr(ExprAction::FirstExpr),
-    Action::Expr(ExprAction::SomeExpr),
-    Action::Expr(ExprAction::NoExpr),
-    Action::Stmt(StmtAction::TargetName),
-    Action::Stmt(StmtAction::TargetSelect),
-    Action::Stmt(StmtAction::TargetConcatenation),
-    Action::Stmt(StmtAction::NoTargets),
-    Action::Stmt(StmtAction::AddTarget),
-    Action::Stmt(StmtAction::Blocking),
-    Action::Stmt(StmtAction::Nonblocking),
-    Action::Stmt(StmtAction::Assignment),
-    Action::Stmt(StmtAction::Empty),
-    Action::Stmt(StmtAction::SomeLabel),
-    Action::Stmt(StmtAction::NoLabel),
-    Action::Stmt(StmtAction::Block),
-    Action::Stmt(StmtAction::NoStmts),
-    Action::Stmt(StmtAction::AddStmt),
-    Action::Stmt(StmtAction::IfAlone),
-    Action::Stmt(StmtAction::IfElse),
-    Action::Stmt(StmtAction::Case),
-    Action::Stmt(StmtAction::Casez),
-    Action::Stmt(StmtAction::ValuesItem),
-    Action::Stmt(StmtAction::DefaultItem),
-    Action::Stmt(StmtAction::NoCaseItems),
-    Action::Stmt(StmtAction::AddCaseItem),
-    Action::Stmt(StmtAction::For),
-    Action::Declare(DeclareAction::Range),
-    Action::Declare(DeclareAction::SomeRange),
-    Action::Declare(DeclareAction::NoRange),
-    Action::Declare(DeclareAction::SignedRange),
-    Action::Declare(DeclareAction::PlainRange),
-    Action::Declare(DeclareAction::NoParameterRange),
-    Action::Declare(DeclareAction::Parameter),
-    Action::Declare(DeclareAction::NoParameters),
-    Action::Declare(DeclareAction::AddParameter),
-    Action::Declare(DeclareAction::NoNames),
-    Action::Declare(DeclareAction::AddName),
-    Action::Declare(DeclareAction::NoDeclared),
-    Action::Declare(DeclareAction::AddDeclared),
-    Action::Declare(DeclareAction::Declarator),
-    Action::Declare(DeclareAction::NoDeclarators),
-    Action::Declare(DeclareAction::AddDeclarator),
-    Action::Declare(DeclareAction::WireKind),
-    Action::Declare(DeclareAction::RegKind),
-    Action::Declare(DeclareAction::NoKind),
-    Action::Declare(DeclareAction::Signed),
-    Action::Declare(DeclareAction::Unsigned),
-    Action::Declare(DeclareAction::PlainRegister),
-    Action::Declare(DeclareAction::InitializedRegister),
-    Action::Declare(DeclareAction::Memory),
-    Action::Declare(DeclareAction::NoRegisters),
-    Action::Declare(DeclareAction::AddRegister),
-    Action::Connect(ConnectAction::Ordered),
-    Action::Connect(ConnectAction::NoOrdered),
-    Action::Connect(ConnectAction::AddOrdered),
-    Action::Connect(ConnectAction::Named),
-    Action::Connect(ConnectAction::NoNamed),
-    Action::Connect(ConnectAction::AddNamed),
-    Action::Connect(ConnectAction::NoConnections),
-    Action::Connect(ConnectAction::OrderedConnections),
-    Action::Connect(ConnectAction::NamedConnections),
-    Action::Connect(ConnectAction::SomeOverrides),
-    Action::Connect(ConnectAction::NoOverrides),
-    Action::Connect(ConnectAction::Instance),
-    Action::Connect(ConnectAction::NoInstances),
-    Action::Connect(ConnectAction::AddInstance),
-    Action::Connect(ConnectAction::NetAssignment),
-    Action::Connect(ConnectAction::NoNetAssignments),
-    Action::Connect(ConnectAction::AddNetAssignment),
-    Action::Connect(ConnectAction::AnyEvent),
-    Action::Connect(ConnectAction::PosedgeEvent),
-    Action::Connect(ConnectAction::NamesEvent),
+    Action::Expression(ExpressionAction::DecimalLiteral),
+    Action::Expression(ExpressionAction::BasedLiteral),
+    Action::Expression(ExpressionAction::SizedLiteral),
+    Action::Expression(ExpressionAction::NameAlone),
+    Action::Expression(ExpressionAction::Select),
+    Action::Expression(ExpressionAction::Unary),
+    Action::Expression(ExpressionAction::Binary),
+    Action::Expression(ExpressionAction::Conditional),
+    Action::Expression(ExpressionAction::Parentheses),
+    Action::Expression(ExpressionAction::Concatenation),
+    Action::Expression(ExpressionAction::Replication),
+    Action::Expression(ExpressionAction::SignedCall),
+    Action::Expression(ExpressionAction::UnsignedCall),
+    Action::Expression(ExpressionAction::IndexSelection),
+    Action::Expression(ExpressionAction::RangeSelection),
+    Action::Expression(ExpressionAction::UpSelection),
+    Action::Expression(ExpressionAction::DownSelection),
+    Action::Expression(ExpressionAction::AddExpr),
+    Action::Expression(ExpressionAction::FirstExpr),
+    Action::Expression(ExpressionAction::SomeExpr),
+    Action::Expression(ExpressionAction::NoExpr),
+    Action::Statement(StatementAction::TargetName),
+    Action::Statement(StatementAction::TargetSelect),
+    Action::Statement(StatementAction::TargetConcatenation),
+    Action::Statement(StatementAction::NoTargets),
+    Action::Statement(StatementAction::AddTarget),
+    Action::Statement(StatementAction::Blocking),
+    Action::Statement(StatementAction::Nonblocking),
+    Action::Statement(StatementAction::Assignment),
+    Action::Statement(StatementAction::Empty),
+    Action::Statement(StatementAction::SomeLabel),
+    Action::Statement(StatementAction::NoLabel),
+    Action::Statement(StatementAction::Block),
+    Action::Statement(StatementAction::NoStmts),
+    Action::Statement(StatementAction::AddStmt),
+    Action::Statement(StatementAction::IfAlone),
+    Action::Statement(StatementAction::IfElse),
+    Action::Statement(StatementAction::Case),
+    Action::Statement(StatementAction::Casez),
+    Action::Statement(StatementAction::ValuesItem),
+    Action::Statement(StatementAction::DefaultItem),
+    Action::Statement(StatementAction::NoCaseItems),
+    Action::Statement(StatementAction::AddCaseItem),
+    Action::Statement(StatementAction::For),
+    Action::Declaration(DeclarationAction::Range),
+    Action::Declaration(DeclarationAction::SomeRange),
+    Action::Declaration(DeclarationAction::NoRange),
+    Action::Declaration(DeclarationAction::SignedRange),
+    Action::Declaration(DeclarationAction::PlainRange),
+    Action::Declaration(DeclarationAction::NoParameterRange),
+    Action::Declaration(DeclarationAction::Parameter),
+    Action::Declaration(DeclarationAction::NoParameters),
+    Action::Declaration(DeclarationAction::AddParameter),
+    Action::Declaration(DeclarationAction::NoNames),
+    Action::Declaration(DeclarationAction::AddName),
+    Action::Declaration(DeclarationAction::NoDeclared),
+    Action::Declaration(DeclarationAction::AddDeclared),
+    Action::Declaration(DeclarationAction::Declarator),
+    Action::Declaration(DeclarationAction::NoDeclarators),
+    Action::Declaration(DeclarationAction::AddDeclarator),
+    Action::Declaration(DeclarationAction::WireKind),
+    Action::Declaration(DeclarationAction::RegKind),
+    Action::Declaration(DeclarationAction::NoKind),
+    Action::Declaration(DeclarationAction::Signed),
+    Action::Declaration(DeclarationAction::Unsigned),
+    Action::Declaration(DeclarationAction::PlainRegister),
+    Action::Declaration(DeclarationAction::InitializedRegister),
+    Action::Declaration(DeclarationAction::Memory),
+    Action::Declaration(DeclarationAction::NoRegisters),
+    Action::Declaration(DeclarationAction::AddRegister),
+    Action::Connection(ConnectionAction::Ordered),
+    Action::Connection(ConnectionAction::NoOrdered),
+    Action::Connection(ConnectionAction::AddOrdered),
+    Action::Connection(ConnectionAction::Named),
+    Action::Connection(ConnectionAction::NoNamed),
+    Action::Connection(ConnectionAction::AddNamed),
+    Action::Connection(ConnectionAction::NoConnections),
+    Action::Connection(ConnectionAction::OrderedConnections),
+    Action::Connection(ConnectionAction::NamedConnections),
+    Action::Connection(ConnectionAction::SomeOverrides),
+    Action::Connection(ConnectionAction::NoOverrides),
+    Action::Connection(ConnectionAction::Instance),
+    Action::Connection(ConnectionAction::NoInstances),
+    Action::Connection(ConnectionAction::AddInstance),
+    Action::Connection(ConnectionAction::NetAssignment),
+    Action::Connection(ConnectionAction::NoNetAssignments),
+    Action::Connection(ConnectionAction::AddNetAssignment),
+    Action::Connection(ConnectionAction::AnyEvent),
+    Action::Connection(ConnectionAction::PosedgeEvent),
+    Action::Connection(ConnectionAction::NamesEvent),
     Action::Module(ModuleAction::PortItem),
     Action::Module(ModuleAction::NetItem),
     Action::Module(ModuleAction::RegItem),
@@ -450,11 +450,11 @@ pub static ACTIONS: [Action; 153] = [
 ];
 
 fn action_at(actions: &[Action], number: u16) -> Action
-    ensures { result ≡ slice_index_or actions.now number (Action.Expr ExprAction.NoExprs) }
+    ensures { result ≡ slice_index_or actions.now number (Action.Expression ExpressionAction.NoExprs) }
 {
     match actions.get(number as usize) {
         Some(action) => *action,
-        None => Action::Expr(ExprAction::NoExprs),
+        None => Action::Expression(ExpressionAction::NoExprs),
     }
 }
 

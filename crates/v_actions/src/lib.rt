@@ -10,8 +10,8 @@ ghost use Rattle.v_actions.specs.Laws.{TreeLaw};
 pub mod actions;
 
 pub use actions::{
-    Action, ConnectAction, DeclareAction, ExprAction, ModuleAction, StmtAction, TokenAction,
-    action_of,
+    Action, ConnectionAction, DeclarationAction, ExpressionAction, ModuleAction, StatementAction,
+    TokenAction, action_of,
 };
 
 /// The actions of each derivation build a tree, and a text has no other. It does nothing: its contract is a law.

@@ -2,10 +2,10 @@
 
 ghost use Rattle.std.specs.Prelude.{IfOk, reverse};
 ghost use Rattle.v_stack.specs.Values.{Fits};
-ghost use Rattle.v_actions.specs.Expr.{expr_act};
+ghost use Rattle.v_actions.specs.ExpressionActions.{after_expression_action};
 
 use std::alloc::{AllocError, Global};
-use v_actions::ExprAction;
+use v_actions::ExpressionAction;
 use v_make_expressions::{
     make_add_expr, make_based_literal, make_binary, make_concatenation, make_conditional,
     make_decimal_literal, make_down_selection, make_first_expr, make_index_selection,
@@ -19,32 +19,32 @@ use v_stack::Value;
 pub fn act_expr(
     alloc: Global,
     stack: &mut Vec<Value>,
-    action: ExprAction,
+    action: ExpressionAction,
 ) -> Result<bool, AllocError>
-    ensures { IfOk result (λ fits. Fits fits (reverse stack.new.items) (expr_act action (reverse stack.old.items))) }
+    ensures { IfOk result (λ fits. Fits fits (reverse stack.new.items) (after_expression_action action (reverse stack.old.items))) }
 {
     match action {
-        ExprAction::DecimalLiteral => make_decimal_literal(stack),
-        ExprAction::BasedLiteral => make_based_literal(stack),
-        ExprAction::SizedLiteral => make_sized_literal(stack),
-        ExprAction::NameAlone => make_name_alone(stack),
-        ExprAction::Select => make_select(alloc, stack),
-        ExprAction::Unary => make_unary(alloc, stack),
-        ExprAction::Binary => make_binary(alloc, stack),
-        ExprAction::Conditional => make_conditional(alloc, stack),
-        ExprAction::Parentheses => make_parentheses(alloc, stack),
-        ExprAction::Concatenation => make_concatenation(stack),
-        ExprAction::Replication => make_replication(alloc, stack),
-        ExprAction::SignedCall => make_signed_call(alloc, stack),
-        ExprAction::UnsignedCall => make_unsigned_call(alloc, stack),
-        ExprAction::IndexSelection => make_index_selection(alloc, stack),
-        ExprAction::RangeSelection => make_range_selection(alloc, stack),
-        ExprAction::UpSelection => make_up_selection(alloc, stack),
-        ExprAction::DownSelection => make_down_selection(alloc, stack),
-        ExprAction::NoExprs => make_no_exprs(alloc, stack),
-        ExprAction::AddExpr => make_add_expr(stack),
-        ExprAction::FirstExpr => make_first_expr(alloc, stack),
-        ExprAction::SomeExpr => make_some_expr(stack),
-        ExprAction::NoExpr => make_no_expr(stack),
+        ExpressionAction::DecimalLiteral => make_decimal_literal(stack),
+        ExpressionAction::BasedLiteral => make_based_literal(stack),
+        ExpressionAction::SizedLiteral => make_sized_literal(stack),
+        ExpressionAction::NameAlone => make_name_alone(stack),
+        ExpressionAction::Select => make_select(alloc, stack),
+        ExpressionAction::Unary => make_unary(alloc, stack),
+        ExpressionAction::Binary => make_binary(alloc, stack),
+        ExpressionAction::Conditional => make_conditional(alloc, stack),
+        ExpressionAction::Parentheses => make_parentheses(alloc, stack),
+        ExpressionAction::Concatenation => make_concatenation(stack),
+        ExpressionAction::Replication => make_replication(alloc, stack),
+        ExpressionAction::SignedCall => make_signed_call(alloc, stack),
+        ExpressionAction::UnsignedCall => make_unsigned_call(alloc, stack),
+        ExpressionAction::IndexSelection => make_index_selection(alloc, stack),
+        ExpressionAction::RangeSelection => make_range_selection(alloc, stack),
+        ExpressionAction::UpSelection => make_up_selection(alloc, stack),
+        ExpressionAction::DownSelection => make_down_selection(alloc, stack),
+        ExpressionAction::NoExprs => make_no_exprs(alloc, stack),
+        ExpressionAction::AddExpr => make_add_expr(stack),
+        ExpressionAction::FirstExpr => make_first_expr(alloc, stack),
+        ExpressionAction::SomeExpr => make_some_expr(stack),
+        ExpressionAction::NoExpr => make_no_expr(stack),
     }
 }

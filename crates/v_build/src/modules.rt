@@ -2,7 +2,7 @@
 
 ghost use Rattle.std.specs.Prelude.{IfOk, reverse};
 ghost use Rattle.v_stack.specs.Values.{Fits};
-ghost use Rattle.v_actions.specs.Module.{module_act};
+ghost use Rattle.v_actions.specs.ModuleActions.{after_module_action};
 
 use std::alloc::{AllocError, Global};
 use v_actions::ModuleAction;
@@ -21,7 +21,7 @@ pub fn act_module(
     stack: &mut Vec<Value>,
     action: ModuleAction,
 ) -> Result<bool, AllocError>
-    ensures { IfOk result (λ fits. Fits fits (reverse stack.new.items) (module_act action (reverse stack.old.items))) }
+    ensures { IfOk result (λ fits. Fits fits (reverse stack.new.items) (after_module_action action (reverse stack.old.items))) }
 {
     match action {
         ModuleAction::PortItem => make_port_item(stack),

@@ -2,10 +2,10 @@
 
 ghost use Rattle.std.specs.Prelude.{IfOk, reverse};
 ghost use Rattle.v_stack.specs.Values.{Fits};
-ghost use Rattle.v_actions.specs.Stmt.{stmt_act};
+ghost use Rattle.v_actions.specs.StatementActions.{after_statement_action};
 
 use std::alloc::{AllocError, Global};
-use v_actions::StmtAction;
+use v_actions::StatementAction;
 use v_make_statements::{
     make_add_case_item, make_add_stmt, make_add_target, make_assignment, make_block, make_blocking,
     make_case, make_casez, make_default_item, make_empty, make_for, make_if_alone, make_if_else,
@@ -19,33 +19,33 @@ use v_stack::Value;
 pub fn act_stmt(
     alloc: Global,
     stack: &mut Vec<Value>,
-    action: StmtAction,
+    action: StatementAction,
 ) -> Result<bool, AllocError>
-    ensures { IfOk result (λ fits. Fits fits (reverse stack.new.items) (stmt_act action (reverse stack.old.items))) }
+    ensures { IfOk result (λ fits. Fits fits (reverse stack.new.items) (after_statement_action action (reverse stack.old.items))) }
 {
     match action {
-        StmtAction::TargetName => make_target_name(stack),
-        StmtAction::TargetSelect => make_target_select(stack),
-        StmtAction::TargetConcatenation => make_target_concatenation(stack),
-        StmtAction::NoTargets => make_no_targets(alloc, stack),
-        StmtAction::AddTarget => make_add_target(stack),
-        StmtAction::Blocking => make_blocking(stack),
-        StmtAction::Nonblocking => make_nonblocking(stack),
-        StmtAction::Assignment => make_assignment(stack),
-        StmtAction::Empty => make_empty(stack),
-        StmtAction::SomeLabel => make_some_label(stack),
-        StmtAction::NoLabel => make_no_label(stack),
-        StmtAction::Block => make_block(stack),
-        StmtAction::NoStmts => make_no_stmts(alloc, stack),
-        StmtAction::AddStmt => make_add_stmt(stack),
-        StmtAction::IfAlone => make_if_alone(alloc, stack),
-        StmtAction::IfElse => make_if_else(alloc, stack),
-        StmtAction::Case => make_case(stack),
-        StmtAction::Casez => make_casez(stack),
-        StmtAction::ValuesItem => make_values_item(alloc, stack),
-        StmtAction::DefaultItem => make_default_item(alloc, stack),
-        StmtAction::NoCaseItems => make_no_case_items(alloc, stack),
-        StmtAction::AddCaseItem => make_add_case_item(stack),
-        StmtAction::For => make_for(alloc, stack),
+        StatementAction::TargetName => make_target_name(stack),
+        StatementAction::TargetSelect => make_target_select(stack),
+        StatementAction::TargetConcatenation => make_target_concatenation(stack),
+        StatementAction::NoTargets => make_no_targets(alloc, stack),
+        StatementAction::AddTarget => make_add_target(stack),
+        StatementAction::Blocking => make_blocking(stack),
+        StatementAction::Nonblocking => make_nonblocking(stack),
+        StatementAction::Assignment => make_assignment(stack),
+        StatementAction::Empty => make_empty(stack),
+        StatementAction::SomeLabel => make_some_label(stack),
+        StatementAction::NoLabel => make_no_label(stack),
+        StatementAction::Block => make_block(stack),
+        StatementAction::NoStmts => make_no_stmts(alloc, stack),
+        StatementAction::AddStmt => make_add_stmt(stack),
+        StatementAction::IfAlone => make_if_alone(alloc, stack),
+        StatementAction::IfElse => make_if_else(alloc, stack),
+        StatementAction::Case => make_case(stack),
+        StatementAction::Casez => make_casez(stack),
+        StatementAction::ValuesItem => make_values_item(alloc, stack),
+        StatementAction::DefaultItem => make_default_item(alloc, stack),
+        StatementAction::NoCaseItems => make_no_case_items(alloc, stack),
+        StatementAction::AddCaseItem => make_add_case_item(stack),
+        StatementAction::For => make_for(alloc, stack),
     }
 }

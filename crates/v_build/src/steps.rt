@@ -6,7 +6,7 @@ ghost use Rattle.text_scan.specs.declared.scanner.Token.{Token};
 ghost use Rattle.v_stack.specs.Values.{Fits};
 ghost use Rattle.v_stack.specs.declared.values.Value.TheVariants as value;
 ghost use Rattle.v_stack.specs.declared.values.ModuleValue.TheVariants as module_value;
-ghost use Rattle.v_actions.specs.Acts.{act, action_act, built};
+ghost use Rattle.v_actions.specs.Acts.{act, after_action, built};
 ghost use Rattle.v_actions.specs.Reading.{BuildsTree, places_of};
 ghost use Rattle.v_actions.specs.declared.actions.Action.TheVariants as action_of_kind;
 ghost use Rattle.v_build.specs.Sources.{IsInside, lexemes_of, read_as};
@@ -41,7 +41,7 @@ fn act_token(
     action: TokenAction,
     token: u32,
 ) -> Result<bool, AllocError>
-    ensures { IfOk result (λ fits. Fits fits (reverse stack.new.items) (action_act (lexemes_of source.now) (action_of_kind.Token action) token (reverse stack.old.items))) }
+    ensures { IfOk result (λ fits. Fits fits (reverse stack.new.items) (after_action (lexemes_of source.now) (action_of_kind.Token action) token (reverse stack.old.items))) }
 {
     let Source {
         text,
@@ -66,10 +66,10 @@ fn act(
 {
     match action_of(step.action) {
         Action::Token(action) => act_token(alloc, stack, source, action, step.token),
-        Action::Expr(action) => act_expr(alloc, stack, action),
-        Action::Stmt(action) => act_stmt(alloc, stack, action),
-        Action::Declare(action) => act_declare(alloc, stack, action),
-        Action::Connect(action) => act_connect(alloc, stack, action),
+        Action::Expression(action) => act_expr(alloc, stack, action),
+        Action::Statement(action) => act_stmt(alloc, stack, action),
+        Action::Declaration(action) => act_declare(alloc, stack, action),
+        Action::Connection(action) => act_connect(alloc, stack, action),
         Action::Module(action) => act_module(alloc, stack, action),
     }
 }

@@ -7,25 +7,25 @@ use Rattle.node_depth.specs.Weaves.{weave_of}
 use Rattle.node_places.proofs.Looks.{of_values, of_token}
 use Rattle.v_actions.specs.declared.actions.TokenAction.{TokenAction}
 use Rattle.v_actions.specs.declared.actions.TokenAction.TheVariants as token_action
-use Rattle.v_actions.specs.declared.actions.ExprAction.{ExprAction}
-use Rattle.v_actions.specs.declared.actions.ExprAction.TheVariants as expr_action
-use Rattle.v_actions.specs.declared.actions.StmtAction.{StmtAction}
-use Rattle.v_actions.specs.declared.actions.StmtAction.TheVariants as stmt_action
-use Rattle.v_actions.specs.declared.actions.DeclareAction.{DeclareAction}
-use Rattle.v_actions.specs.declared.actions.DeclareAction.TheVariants as declare_action
-use Rattle.v_actions.specs.declared.actions.ConnectAction.{ConnectAction}
-use Rattle.v_actions.specs.declared.actions.ConnectAction.TheVariants as connect_action
+use Rattle.v_actions.specs.declared.actions.ExpressionAction.{ExpressionAction}
+use Rattle.v_actions.specs.declared.actions.ExpressionAction.TheVariants as expr_action
+use Rattle.v_actions.specs.declared.actions.StatementAction.{StatementAction}
+use Rattle.v_actions.specs.declared.actions.StatementAction.TheVariants as stmt_action
+use Rattle.v_actions.specs.declared.actions.DeclarationAction.{DeclarationAction}
+use Rattle.v_actions.specs.declared.actions.DeclarationAction.TheVariants as declare_action
+use Rattle.v_actions.specs.declared.actions.ConnectionAction.{ConnectionAction}
+use Rattle.v_actions.specs.declared.actions.ConnectionAction.TheVariants as connect_action
 use Rattle.v_actions.specs.declared.actions.ModuleAction.{ModuleAction}
 use Rattle.v_actions.specs.declared.actions.ModuleAction.TheVariants as module_action
 use Rattle.v_actions.specs.declared.actions.Action.{Action}
 use Rattle.v_actions.specs.declared.actions.Action.TheVariants as action
 use Rattle.v_actions.specs.declared.actions.TheConstants.{ACTIONS}
-use Rattle.v_actions.specs.Acts.{action_act}
-use Rattle.v_actions.specs.Expr.{expr_act}
-use Rattle.v_actions.specs.Stmt.{stmt_act}
-use Rattle.v_actions.specs.Declare.{declare_act}
-use Rattle.v_actions.specs.Connect.{connect_act}
-use Rattle.v_actions.specs.Module.{module_act}
+use Rattle.v_actions.specs.Acts.{after_action}
+use Rattle.v_actions.specs.ExpressionActions.{after_expression_action}
+use Rattle.v_actions.specs.StatementActions.{after_statement_action}
+use Rattle.v_actions.specs.DeclarationActions.{after_declaration_action}
+use Rattle.v_actions.specs.ConnectionActions.{after_connection_action}
+use Rattle.v_actions.specs.ModuleActions.{after_module_action}
 use Rattle.v_actions.specs.Numbers.{action_of}
 use Rattle.v_actions.specs.Sorts.{sorts_of}
 use Rattle.v_actions.specs.Tokens.{Lexemes, place_in, token_value}
@@ -33,10 +33,10 @@ use Rattle.v_actions.proofs.Fitting.{signature}
 use Rattle.v_stack.specs.Values.{Values}
 use Rattle.v_grammar.specs.declared.TheConstants.{WEAVES}
 use Rattle.v_depth.proofs.Values.{Looks}
-use Rattle.v_depth.proofs.ExprLooks.{look_decimal_literal, look_based_literal, look_sized_literal, look_name_alone, look_select, look_unary, look_binary, look_conditional, look_parentheses, look_concatenation, look_replication, look_signed_call, look_unsigned_call, look_index_selection, look_range_selection, look_up_selection, look_down_selection, look_no_exprs, look_add_expr, look_first_expr, look_some_expr, look_no_expr}
-use Rattle.v_depth.proofs.StmtLooks.{look_target_name, look_target_select, look_target_concatenation, look_no_targets, look_add_target, look_blocking, look_nonblocking, look_assignment, look_empty, look_some_label, look_no_label, look_block, look_no_stmts, look_add_stmt, look_if_alone, look_if_else, look_case, look_casez, look_values_item, look_default_item, look_no_case_items, look_add_case_item, look_for}
-use Rattle.v_depth.proofs.DeclareLooks.{look_range, look_some_range, look_no_range, look_signed_range, look_plain_range, look_no_parameter_range, look_parameter, look_no_parameters, look_add_parameter, look_no_names, look_add_name, look_no_declared, look_add_declared, look_declarator, look_no_declarators, look_add_declarator, look_wire_kind, look_reg_kind, look_no_kind, look_signed, look_unsigned, look_plain_register, look_initialized_register, look_memory, look_no_registers, look_add_register}
-use Rattle.v_depth.proofs.ConnectLooks.{look_ordered, look_no_ordered, look_add_ordered, look_named, look_no_named, look_add_named, look_no_connections, look_ordered_connections, look_named_connections, look_some_overrides, look_no_overrides, look_instance, look_no_instances, look_add_instance, look_net_assignment, look_no_net_assignments, look_add_net_assignment, look_any_event, look_posedge_event, look_names_event}
+use Rattle.v_depth.proofs.ExpressionLooks.{look_decimal_literal, look_based_literal, look_sized_literal, look_name_alone, look_select, look_unary, look_binary, look_conditional, look_parentheses, look_concatenation, look_replication, look_signed_call, look_unsigned_call, look_index_selection, look_range_selection, look_up_selection, look_down_selection, look_no_exprs, look_add_expr, look_first_expr, look_some_expr, look_no_expr}
+use Rattle.v_depth.proofs.StatementLooks.{look_target_name, look_target_select, look_target_concatenation, look_no_targets, look_add_target, look_blocking, look_nonblocking, look_assignment, look_empty, look_some_label, look_no_label, look_block, look_no_stmts, look_add_stmt, look_if_alone, look_if_else, look_case, look_casez, look_values_item, look_default_item, look_no_case_items, look_add_case_item, look_for}
+use Rattle.v_depth.proofs.DeclarationLooks.{look_range, look_some_range, look_no_range, look_signed_range, look_plain_range, look_no_parameter_range, look_parameter, look_no_parameters, look_add_parameter, look_no_names, look_add_name, look_no_declared, look_add_declared, look_declarator, look_no_declarators, look_add_declarator, look_wire_kind, look_reg_kind, look_no_kind, look_signed, look_unsigned, look_plain_register, look_initialized_register, look_memory, look_no_registers, look_add_register}
+use Rattle.v_depth.proofs.ConnectionLooks.{look_ordered, look_no_ordered, look_add_ordered, look_named, look_no_named, look_add_named, look_no_connections, look_ordered_connections, look_named_connections, look_some_overrides, look_no_overrides, look_instance, look_no_instances, look_add_instance, look_net_assignment, look_no_net_assignments, look_add_net_assignment, look_any_event, look_posedge_event, look_names_event}
 use Rattle.v_depth.proofs.ModuleLooks.{look_port_item, look_net_item, look_reg_item, look_integer_item, look_parameter_item, look_local_parameter_item, look_assign_item, look_always_item, look_initial_item, look_instances_item, look_no_items, look_add_item, look_no_groups, look_close_group, look_no_ports, look_close_port, look_absent_header, look_empty_header, look_header_names, look_header_ports, look_module, look_no_modules, look_add_module, look_source}
 
 abbrev weave_of_token : TokenAction → Weave
@@ -49,7 +49,7 @@ weave_of_token (token_action.Direction kind) = of_token 0
 weave_of_token (token_action.Unary op) = of_token 0
 weave_of_token (token_action.Binary op) = of_token 0
 
-abbrev weave_of_expr : ExprAction → Weave
+abbrev weave_of_expr : ExpressionAction → Weave
 weave_of_expr expr_action.DecimalLiteral = of_values 1 1
 weave_of_expr expr_action.BasedLiteral = of_values 1 1
 weave_of_expr expr_action.SizedLiteral = of_values 2 1
@@ -73,7 +73,7 @@ weave_of_expr expr_action.FirstExpr = of_values 1 0
 weave_of_expr expr_action.SomeExpr = of_values 1 0
 weave_of_expr expr_action.NoExpr = of_values 0 0
 
-abbrev weave_of_stmt : StmtAction → Weave
+abbrev weave_of_stmt : StatementAction → Weave
 weave_of_stmt stmt_action.TargetName = of_values 1 1
 weave_of_stmt stmt_action.TargetSelect = of_values 2 1
 weave_of_stmt stmt_action.TargetConcatenation = of_values 2 1
@@ -98,7 +98,7 @@ weave_of_stmt stmt_action.NoCaseItems = of_values 0 0
 weave_of_stmt stmt_action.AddCaseItem = of_values 2 0
 weave_of_stmt stmt_action.For = of_values 7 1
 
-abbrev weave_of_declare : DeclareAction → Weave
+abbrev weave_of_declare : DeclarationAction → Weave
 weave_of_declare declare_action.Range = of_values 3 0
 weave_of_declare declare_action.SomeRange = of_values 1 0
 weave_of_declare declare_action.NoRange = of_values 0 0
@@ -126,7 +126,7 @@ weave_of_declare declare_action.Memory = of_values 2 1
 weave_of_declare declare_action.NoRegisters = of_values 0 0
 weave_of_declare declare_action.AddRegister = of_values 2 0
 
-abbrev weave_of_connect : ConnectAction → Weave
+abbrev weave_of_connect : ConnectionAction → Weave
 weave_of_connect connect_action.Ordered = of_values 1 1
 weave_of_connect connect_action.NoOrdered = of_values 0 0
 weave_of_connect connect_action.AddOrdered = of_values 2 0
@@ -176,17 +176,17 @@ weave_of_module module_action.Source = of_values 1 1
 
 abbrev pub weave : Action → Weave
 weave (action.Token a) = weave_of_token a
-weave (action.Expr a) = weave_of_expr a
-weave (action.Stmt a) = weave_of_stmt a
-weave (action.Declare a) = weave_of_declare a
-weave (action.Connect a) = weave_of_connect a
+weave (action.Expression a) = weave_of_expr a
+weave (action.Statement a) = weave_of_stmt a
+weave (action.Declaration a) = weave_of_declare a
+weave (action.Connection a) = weave_of_connect a
 weave (action.Module a) = weave_of_module a
 
 weaves : map weave ACTIONS ≡ WEAVES
 weaves = refl
 
 pub weave_at : (n : ℕ) → weave_of WEAVES n ≡ weave (action_of n)
-weave_at n = ap (λ ws. weave_of ws n) (sym weaves) ∙ get_or-map weave ACTIONS n (action.Expr expr_action.NoExprs)
+weave_at n = ap (λ ws. weave_of ws n) (sym weaves) ∙ get_or-map weave ACTIONS n (action.Expression expr_action.NoExprs)
 
 look_token : (x : Lexemes) (a : TokenAction) (i : ℕ) (nothing : Place) (st : Values) → Looks nothing (weave_of_token a) (place_in x.places i) st (Some (token_value x a i ∷ st))
 look_token x token_action.Place i nothing st = refl
@@ -198,7 +198,7 @@ look_token x (token_action.Direction kind) i nothing st = refl
 look_token x (token_action.Unary op) i nothing st = refl
 look_token x (token_action.Binary op) i nothing st = refl
 
-look_expr_action : (a : ExprAction) (nothing own : Place) (st : Values) (rest : List ℕ) → sorts_of st ≡ (signature (action.Expr a)).takes ++ rest → Looks nothing (weave_of_expr a) own st (expr_act a st)
+look_expr_action : (a : ExpressionAction) (nothing own : Place) (st : Values) (rest : List ℕ) → sorts_of st ≡ (signature (action.Expression a)).takes ++ rest → Looks nothing (weave_of_expr a) own st (after_expression_action a st)
 look_expr_action expr_action.DecimalLiteral nothing own st rest e = look_decimal_literal nothing own st rest e
 look_expr_action expr_action.BasedLiteral nothing own st rest e = look_based_literal nothing own st rest e
 look_expr_action expr_action.SizedLiteral nothing own st rest e = look_sized_literal nothing own st rest e
@@ -222,7 +222,7 @@ look_expr_action expr_action.FirstExpr nothing own st rest e = look_first_expr n
 look_expr_action expr_action.SomeExpr nothing own st rest e = look_some_expr nothing own st rest e
 look_expr_action expr_action.NoExpr nothing own st rest e = look_no_expr nothing own st rest e
 
-look_stmt_action : (a : StmtAction) (nothing own : Place) (st : Values) (rest : List ℕ) → sorts_of st ≡ (signature (action.Stmt a)).takes ++ rest → Looks nothing (weave_of_stmt a) own st (stmt_act a st)
+look_stmt_action : (a : StatementAction) (nothing own : Place) (st : Values) (rest : List ℕ) → sorts_of st ≡ (signature (action.Statement a)).takes ++ rest → Looks nothing (weave_of_stmt a) own st (after_statement_action a st)
 look_stmt_action stmt_action.TargetName nothing own st rest e = look_target_name nothing own st rest e
 look_stmt_action stmt_action.TargetSelect nothing own st rest e = look_target_select nothing own st rest e
 look_stmt_action stmt_action.TargetConcatenation nothing own st rest e = look_target_concatenation nothing own st rest e
@@ -247,7 +247,7 @@ look_stmt_action stmt_action.NoCaseItems nothing own st rest e = look_no_case_it
 look_stmt_action stmt_action.AddCaseItem nothing own st rest e = look_add_case_item nothing own st rest e
 look_stmt_action stmt_action.For nothing own st rest e = look_for nothing own st rest e
 
-look_declare_action : (a : DeclareAction) (nothing own : Place) (st : Values) (rest : List ℕ) → sorts_of st ≡ (signature (action.Declare a)).takes ++ rest → Looks nothing (weave_of_declare a) own st (declare_act a st)
+look_declare_action : (a : DeclarationAction) (nothing own : Place) (st : Values) (rest : List ℕ) → sorts_of st ≡ (signature (action.Declaration a)).takes ++ rest → Looks nothing (weave_of_declare a) own st (after_declaration_action a st)
 look_declare_action declare_action.Range nothing own st rest e = look_range nothing own st rest e
 look_declare_action declare_action.SomeRange nothing own st rest e = look_some_range nothing own st rest e
 look_declare_action declare_action.NoRange nothing own st rest e = look_no_range nothing own st rest e
@@ -275,7 +275,7 @@ look_declare_action declare_action.Memory nothing own st rest e = look_memory no
 look_declare_action declare_action.NoRegisters nothing own st rest e = look_no_registers nothing own st rest e
 look_declare_action declare_action.AddRegister nothing own st rest e = look_add_register nothing own st rest e
 
-look_connect_action : (a : ConnectAction) (nothing own : Place) (st : Values) (rest : List ℕ) → sorts_of st ≡ (signature (action.Connect a)).takes ++ rest → Looks nothing (weave_of_connect a) own st (connect_act a st)
+look_connect_action : (a : ConnectionAction) (nothing own : Place) (st : Values) (rest : List ℕ) → sorts_of st ≡ (signature (action.Connection a)).takes ++ rest → Looks nothing (weave_of_connect a) own st (after_connection_action a st)
 look_connect_action connect_action.Ordered nothing own st rest e = look_ordered nothing own st rest e
 look_connect_action connect_action.NoOrdered nothing own st rest e = look_no_ordered nothing own st rest e
 look_connect_action connect_action.AddOrdered nothing own st rest e = look_add_ordered nothing own st rest e
@@ -297,7 +297,7 @@ look_connect_action connect_action.AnyEvent nothing own st rest e = look_any_eve
 look_connect_action connect_action.PosedgeEvent nothing own st rest e = look_posedge_event nothing own st rest e
 look_connect_action connect_action.NamesEvent nothing own st rest e = look_names_event nothing own st rest e
 
-look_module_action : (a : ModuleAction) (nothing own : Place) (st : Values) (rest : List ℕ) → sorts_of st ≡ (signature (action.Module a)).takes ++ rest → Looks nothing (weave_of_module a) own st (module_act a st)
+look_module_action : (a : ModuleAction) (nothing own : Place) (st : Values) (rest : List ℕ) → sorts_of st ≡ (signature (action.Module a)).takes ++ rest → Looks nothing (weave_of_module a) own st (after_module_action a st)
 look_module_action module_action.PortItem nothing own st rest e = look_port_item nothing own st rest e
 look_module_action module_action.NetItem nothing own st rest e = look_net_item nothing own st rest e
 look_module_action module_action.RegItem nothing own st rest e = look_reg_item nothing own st rest e
@@ -325,10 +325,10 @@ look_module_action module_action.Source nothing own st rest e = look_source noth
 
 -- an action that finds the sorts that it takes gives the look that its weave says
 pub look_action : (x : Lexemes) (a : Action) (i : ℕ) (nothing : Place) (st : Values) (rest : List ℕ) → sorts_of st ≡ (signature a).takes ++ rest →
-    Looks nothing (weave a) (place_in x.places (i - 1)) st (action_act x a i st)
+    Looks nothing (weave a) (place_in x.places (i - 1)) st (after_action x a i st)
 look_action x (action.Token a) i nothing st rest e = look_token x a (i - 1) nothing st
-look_action x (action.Expr a) i nothing st rest e = look_expr_action a nothing (place_in x.places (i - 1)) st rest e
-look_action x (action.Stmt a) i nothing st rest e = look_stmt_action a nothing (place_in x.places (i - 1)) st rest e
-look_action x (action.Declare a) i nothing st rest e = look_declare_action a nothing (place_in x.places (i - 1)) st rest e
-look_action x (action.Connect a) i nothing st rest e = look_connect_action a nothing (place_in x.places (i - 1)) st rest e
+look_action x (action.Expression a) i nothing st rest e = look_expr_action a nothing (place_in x.places (i - 1)) st rest e
+look_action x (action.Statement a) i nothing st rest e = look_stmt_action a nothing (place_in x.places (i - 1)) st rest e
+look_action x (action.Declaration a) i nothing st rest e = look_declare_action a nothing (place_in x.places (i - 1)) st rest e
+look_action x (action.Connection a) i nothing st rest e = look_connect_action a nothing (place_in x.places (i - 1)) st rest e
 look_action x (action.Module a) i nothing st rest e = look_module_action a nothing (place_in x.places (i - 1)) st rest e

@@ -1,9 +1,9 @@
 pub mod Values
 pub mod Begins
-pub mod ExprLooks
-pub mod StmtLooks
-pub mod DeclareLooks
-pub mod ConnectLooks
+pub mod ExpressionLooks
+pub mod StatementLooks
+pub mod DeclarationLooks
+pub mod ConnectionLooks
 pub mod ModuleLooks
 pub mod ActionLooks
 pub mod BuiltLooks

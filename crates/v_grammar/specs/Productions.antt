@@ -4,6 +4,7 @@ use Rattle.std.specs.Prelude.{List, [], ◌∷◌}
 use Rattle.ll_parse.specs.Productions.{Production, ◌⟶◌, nothing_but_before}
 use Rattle.v_grammar.specs.Symbols.{Always, Ampersand, ArithmeticShiftLeft, ArithmeticShiftRight, Assign, AssignmentKind, At, Bang, Bar, Based, BasedOption, Becomes, Begin, BraceRest, Caret, CaretTilde, Case, CaseItem, CaseItems, Casez, CloseBrace, CloseBracket, CloseParenthesis, Colon, ColonOption, Comma, Connections, Decimal, Declarator, Declarators, DeclaredNames, Default, Direction, Dot, Else, ElseOption, End, Endcase, Endmodule, Equal, EqualOperator, Event, EventIn, EventMark, EventMore, EventRest, Expr, ExprOption, Exprs, For, Greater, GreaterEqual, Group, GroupNext, GroupRest, Groups, Hash, Header, Identifier, If, Initial, Input, Instance, Instances, Integer, Item, Items, Label, Less, LessEqual, Localparam, LogicalAnd, LogicalOr, Minus, MinusColon, Module, Modules, MoreCaseItems, MoreDeclarators, MoreDeclaredNames, MoreExprs, MoreInstances, MoreNamed, MoreNames, MoreNetAssignments, MoreOrdered, MoreParameters, MoreRegisters, MoreTargets, Named, Names, NetAssignment, NetAssignments, NetKind, NotEqual, OpenBrace, OpenBracket, OpenParenthesis, Or, OrderOperator, Output, Overrides, Parameter, ParameterRange, ParameterValue, Parameters, Percent, Plus, PlusColon, Port, PortNext, PortRest, Ports, Posedge, Primary, ProductOperator, Question, Range, RangeOption, Reg, Register, RegisterRest, Registers, SelectOption, Selection, SelectionRest, Semicolon, ShiftLeft, ShiftOperator, ShiftRight, Sign, Signed, SignedCall, Slash, Source, Star, Stmt, Stmts, SumOperator, T0, T1, T10, T2, T3, T4, T5, T6, T7, T8, T9, Target, TargetRest, Tilde, TildeAmpersand, TildeBar, TildeCaret, U1, U10, U2, U3, U4, U5, U6, U7, U8, U9, Unary, UnaryOperator, UnsignedCall, ValueOption, WholeModule, Wire, XorOperator}
 
+-- all productions, in the order of their numbers
 unfoldable pub PRODUCTIONS : List Production
 PRODUCTIONS =
     -- Source = Modules

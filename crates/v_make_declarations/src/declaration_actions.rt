@@ -1,8 +1,8 @@
 //! Actions of parts of declarations (IEEE 1364-2005, clause 4 and Annex A.2).
 
 ghost use Rattle.std.specs.Prelude.{IfOk, reverse};
-ghost use Rattle.v_actions.specs.Declare.{declare_act};
-ghost use Rattle.v_actions.specs.declared.actions.DeclareAction.TheVariants as DeclareAction;
+ghost use Rattle.v_actions.specs.DeclarationActions.{after_declaration_action};
+ghost use Rattle.v_actions.specs.declared.actions.DeclarationAction.TheVariants as DeclarationAction;
 ghost use Rattle.v_stack.specs.Values.{Fits};
 
 use sqlite_items::Items;
@@ -19,7 +19,7 @@ use v_tree::{
 
 /// `[ high : low ]`
 pub fn make_range(stack: &mut Vec<Value>) -> Result<bool, AllocError>
-    ensures { IfOk result (λ fits. Fits fits (reverse stack.new.items) (declare_act DeclareAction.Range (reverse stack.old.items))) }
+    ensures { IfOk result (λ fits. Fits fits (reverse stack.new.items) (after_declaration_action DeclarationAction.Range (reverse stack.old.items))) }
 {
     let low = take_expr(stack);
     let high = take_expr(stack);
@@ -36,7 +36,7 @@ pub fn make_range(stack: &mut Vec<Value>) -> Result<bool, AllocError>
 
 /// A range that is given.
 pub fn make_some_range(stack: &mut Vec<Value>) -> Result<bool, AllocError>
-    ensures { IfOk result (λ fits. Fits fits (reverse stack.new.items) (declare_act DeclareAction.SomeRange (reverse stack.old.items))) }
+    ensures { IfOk result (λ fits. Fits fits (reverse stack.new.items) (after_declaration_action DeclarationAction.SomeRange (reverse stack.old.items))) }
 {
     let Some(range) = take_range(stack) else {
         return Ok(false);
@@ -47,7 +47,7 @@ pub fn make_some_range(stack: &mut Vec<Value>) -> Result<bool, AllocError>
 
 /// No range.
 pub fn make_no_range(stack: &mut Vec<Value>) -> Result<bool, AllocError>
-    ensures { IfOk result (λ fits. Fits fits (reverse stack.new.items) (declare_act DeclareAction.NoRange (reverse stack.old.items))) }
+    ensures { IfOk result (λ fits. Fits fits (reverse stack.new.items) (after_declaration_action DeclarationAction.NoRange (reverse stack.old.items))) }
 {
     put(stack, Value::Expr(ExprValue::RangeOption(None)))?;
     Ok(true)
@@ -55,7 +55,7 @@ pub fn make_no_range(stack: &mut Vec<Value>) -> Result<bool, AllocError>
 
 /// `signed range`
 pub fn make_signed_range(stack: &mut Vec<Value>) -> Result<bool, AllocError>
-    ensures { IfOk result (λ fits. Fits fits (reverse stack.new.items) (declare_act DeclareAction.SignedRange (reverse stack.old.items))) }
+    ensures { IfOk result (λ fits. Fits fits (reverse stack.new.items) (after_declaration_action DeclarationAction.SignedRange (reverse stack.old.items))) }
 {
     let Some(range) = take_range(stack) else {
         return Ok(false);
@@ -72,7 +72,7 @@ pub fn make_signed_range(stack: &mut Vec<Value>) -> Result<bool, AllocError>
 
 /// A range without `signed`.
 pub fn make_plain_range(stack: &mut Vec<Value>) -> Result<bool, AllocError>
-    ensures { IfOk result (λ fits. Fits fits (reverse stack.new.items) (declare_act DeclareAction.PlainRange (reverse stack.old.items))) }
+    ensures { IfOk result (λ fits. Fits fits (reverse stack.new.items) (after_declaration_action DeclarationAction.PlainRange (reverse stack.old.items))) }
 {
     let Some(range) = take_range(stack) else {
         return Ok(false);
@@ -89,7 +89,7 @@ pub fn make_plain_range(stack: &mut Vec<Value>) -> Result<bool, AllocError>
 
 /// No range of a parameter.
 pub fn make_no_parameter_range(stack: &mut Vec<Value>) -> Result<bool, AllocError>
-    ensures { IfOk result (λ fits. Fits fits (reverse stack.new.items) (declare_act DeclareAction.NoParameterRange (reverse stack.old.items))) }
+    ensures { IfOk result (λ fits. Fits fits (reverse stack.new.items) (after_declaration_action DeclarationAction.NoParameterRange (reverse stack.old.items))) }
 {
     put(stack, Value::Declare(DeclareValue::ParameterRange(None)))?;
     Ok(true)
@@ -97,7 +97,7 @@ pub fn make_no_parameter_range(stack: &mut Vec<Value>) -> Result<bool, AllocErro
 
 /// `name = value` of a parameter.
 pub fn make_parameter(stack: &mut Vec<Value>) -> Result<bool, AllocError>
-    ensures { IfOk result (λ fits. Fits fits (reverse stack.new.items) (declare_act DeclareAction.Parameter (reverse stack.old.items))) }
+    ensures { IfOk result (λ fits. Fits fits (reverse stack.new.items) (after_declaration_action DeclarationAction.Parameter (reverse stack.old.items))) }
 {
     let value = take_expr(stack);
     let name = take_name(stack);
@@ -113,7 +113,7 @@ pub fn make_parameter(stack: &mut Vec<Value>) -> Result<bool, AllocError>
 
 /// No parameters yet.
 pub fn make_no_parameters(alloc: Global, stack: &mut Vec<Value>) -> Result<bool, AllocError>
-    ensures { IfOk result (λ fits. Fits fits (reverse stack.new.items) (declare_act DeclareAction.NoParameters (reverse stack.old.items))) }
+    ensures { IfOk result (λ fits. Fits fits (reverse stack.new.items) (after_declaration_action DeclarationAction.NoParameters (reverse stack.old.items))) }
 {
     put(
         stack,
@@ -124,7 +124,7 @@ pub fn make_no_parameters(alloc: Global, stack: &mut Vec<Value>) -> Result<bool,
 
 /// One more of the parameters.
 pub fn make_add_parameter(stack: &mut Vec<Value>) -> Result<bool, AllocError>
-    ensures { IfOk result (λ fits. Fits fits (reverse stack.new.items) (declare_act DeclareAction.AddParameter (reverse stack.old.items))) }
+    ensures { IfOk result (λ fits. Fits fits (reverse stack.new.items) (after_declaration_action DeclarationAction.AddParameter (reverse stack.old.items))) }
 {
     let parameter = take_parameter(stack);
     let parameters = take_parameters(stack);
@@ -138,7 +138,7 @@ pub fn make_add_parameter(stack: &mut Vec<Value>) -> Result<bool, AllocError>
 
 /// No names yet.
 pub fn make_no_names(alloc: Global, stack: &mut Vec<Value>) -> Result<bool, AllocError>
-    ensures { IfOk result (λ fits. Fits fits (reverse stack.new.items) (declare_act DeclareAction.NoNames (reverse stack.old.items))) }
+    ensures { IfOk result (λ fits. Fits fits (reverse stack.new.items) (after_declaration_action DeclarationAction.NoNames (reverse stack.old.items))) }
 {
     put(stack, Value::Names(NamesValue::Names(Items::new(alloc))))?;
     Ok(true)
@@ -146,7 +146,7 @@ pub fn make_no_names(alloc: Global, stack: &mut Vec<Value>) -> Result<bool, Allo
 
 /// One more of the names.
 pub fn make_add_name(stack: &mut Vec<Value>) -> Result<bool, AllocError>
-    ensures { IfOk result (λ fits. Fits fits (reverse stack.new.items) (declare_act DeclareAction.AddName (reverse stack.old.items))) }
+    ensures { IfOk result (λ fits. Fits fits (reverse stack.new.items) (after_declaration_action DeclarationAction.AddName (reverse stack.old.items))) }
 {
     let name = take_name(stack);
     let names = take_names(stack);
@@ -160,7 +160,7 @@ pub fn make_add_name(stack: &mut Vec<Value>) -> Result<bool, AllocError>
 
 /// No declared names yet.
 pub fn make_no_declared(alloc: Global, stack: &mut Vec<Value>) -> Result<bool, AllocError>
-    ensures { IfOk result (λ fits. Fits fits (reverse stack.new.items) (declare_act DeclareAction.NoDeclared (reverse stack.old.items))) }
+    ensures { IfOk result (λ fits. Fits fits (reverse stack.new.items) (after_declaration_action DeclarationAction.NoDeclared (reverse stack.old.items))) }
 {
     put(
         stack,
@@ -171,7 +171,7 @@ pub fn make_no_declared(alloc: Global, stack: &mut Vec<Value>) -> Result<bool, A
 
 /// One more of the declared names.
 pub fn make_add_declared(stack: &mut Vec<Value>) -> Result<bool, AllocError>
-    ensures { IfOk result (λ fits. Fits fits (reverse stack.new.items) (declare_act DeclareAction.AddDeclared (reverse stack.old.items))) }
+    ensures { IfOk result (λ fits. Fits fits (reverse stack.new.items) (after_declaration_action DeclarationAction.AddDeclared (reverse stack.old.items))) }
 {
     let name = take_declared(stack);
     let names = take_declared_names(stack);
@@ -185,7 +185,7 @@ pub fn make_add_declared(stack: &mut Vec<Value>) -> Result<bool, AllocError>
 
 /// A declared name, perhaps with a value.
 pub fn make_declarator(stack: &mut Vec<Value>) -> Result<bool, AllocError>
-    ensures { IfOk result (λ fits. Fits fits (reverse stack.new.items) (declare_act DeclareAction.Declarator (reverse stack.old.items))) }
+    ensures { IfOk result (λ fits. Fits fits (reverse stack.new.items) (after_declaration_action DeclarationAction.Declarator (reverse stack.old.items))) }
 {
     let value = take_expr_option(stack);
     let name = take_name(stack);
@@ -201,7 +201,7 @@ pub fn make_declarator(stack: &mut Vec<Value>) -> Result<bool, AllocError>
 
 /// No declared names with values yet.
 pub fn make_no_declarators(alloc: Global, stack: &mut Vec<Value>) -> Result<bool, AllocError>
-    ensures { IfOk result (λ fits. Fits fits (reverse stack.new.items) (declare_act DeclareAction.NoDeclarators (reverse stack.old.items))) }
+    ensures { IfOk result (λ fits. Fits fits (reverse stack.new.items) (after_declaration_action DeclarationAction.NoDeclarators (reverse stack.old.items))) }
 {
     put(
         stack,
@@ -212,7 +212,7 @@ pub fn make_no_declarators(alloc: Global, stack: &mut Vec<Value>) -> Result<bool
 
 /// One more of the declared names with values.
 pub fn make_add_declarator(stack: &mut Vec<Value>) -> Result<bool, AllocError>
-    ensures { IfOk result (λ fits. Fits fits (reverse stack.new.items) (declare_act DeclareAction.AddDeclarator (reverse stack.old.items))) }
+    ensures { IfOk result (λ fits. Fits fits (reverse stack.new.items) (after_declaration_action DeclarationAction.AddDeclarator (reverse stack.old.items))) }
 {
     let declarator = take_declarator(stack);
     let declarators = take_declarators(stack);
@@ -226,7 +226,7 @@ pub fn make_add_declarator(stack: &mut Vec<Value>) -> Result<bool, AllocError>
 
 /// `wire` of a port.
 pub fn make_wire_kind(stack: &mut Vec<Value>) -> Result<bool, AllocError>
-    ensures { IfOk result (λ fits. Fits fits (reverse stack.new.items) (declare_act DeclareAction.WireKind (reverse stack.old.items))) }
+    ensures { IfOk result (λ fits. Fits fits (reverse stack.new.items) (after_declaration_action DeclarationAction.WireKind (reverse stack.old.items))) }
 {
     put(
         stack,
@@ -237,7 +237,7 @@ pub fn make_wire_kind(stack: &mut Vec<Value>) -> Result<bool, AllocError>
 
 /// `reg` of a port.
 pub fn make_reg_kind(stack: &mut Vec<Value>) -> Result<bool, AllocError>
-    ensures { IfOk result (λ fits. Fits fits (reverse stack.new.items) (declare_act DeclareAction.RegKind (reverse stack.old.items))) }
+    ensures { IfOk result (λ fits. Fits fits (reverse stack.new.items) (after_declaration_action DeclarationAction.RegKind (reverse stack.old.items))) }
 {
     put(
         stack,
@@ -248,7 +248,7 @@ pub fn make_reg_kind(stack: &mut Vec<Value>) -> Result<bool, AllocError>
 
 /// Neither of both.
 pub fn make_no_kind(stack: &mut Vec<Value>) -> Result<bool, AllocError>
-    ensures { IfOk result (λ fits. Fits fits (reverse stack.new.items) (declare_act DeclareAction.NoKind (reverse stack.old.items))) }
+    ensures { IfOk result (λ fits. Fits fits (reverse stack.new.items) (after_declaration_action DeclarationAction.NoKind (reverse stack.old.items))) }
 {
     put(stack, Value::Declare(DeclareValue::NetKind(None)))?;
     Ok(true)
@@ -256,7 +256,7 @@ pub fn make_no_kind(stack: &mut Vec<Value>) -> Result<bool, AllocError>
 
 /// `signed`
 pub fn make_signed(stack: &mut Vec<Value>) -> Result<bool, AllocError>
-    ensures { IfOk result (λ fits. Fits fits (reverse stack.new.items) (declare_act DeclareAction.Signed (reverse stack.old.items))) }
+    ensures { IfOk result (λ fits. Fits fits (reverse stack.new.items) (after_declaration_action DeclarationAction.Signed (reverse stack.old.items))) }
 {
     put(stack, Value::Declare(DeclareValue::Sign(true)))?;
     Ok(true)
@@ -264,7 +264,7 @@ pub fn make_signed(stack: &mut Vec<Value>) -> Result<bool, AllocError>
 
 /// No `signed`.
 pub fn make_unsigned(stack: &mut Vec<Value>) -> Result<bool, AllocError>
-    ensures { IfOk result (λ fits. Fits fits (reverse stack.new.items) (declare_act DeclareAction.Unsigned (reverse stack.old.items))) }
+    ensures { IfOk result (λ fits. Fits fits (reverse stack.new.items) (after_declaration_action DeclarationAction.Unsigned (reverse stack.old.items))) }
 {
     put(stack, Value::Declare(DeclareValue::Sign(false)))?;
     Ok(true)
@@ -272,7 +272,7 @@ pub fn make_unsigned(stack: &mut Vec<Value>) -> Result<bool, AllocError>
 
 /// A register's name alone.
 pub fn make_plain_register(stack: &mut Vec<Value>) -> Result<bool, AllocError>
-    ensures { IfOk result (λ fits. Fits fits (reverse stack.new.items) (declare_act DeclareAction.PlainRegister (reverse stack.old.items))) }
+    ensures { IfOk result (λ fits. Fits fits (reverse stack.new.items) (after_declaration_action DeclarationAction.PlainRegister (reverse stack.old.items))) }
 {
     let Some(name) = take_name(stack) else {
         return Ok(false);
@@ -289,7 +289,7 @@ pub fn make_plain_register(stack: &mut Vec<Value>) -> Result<bool, AllocError>
 
 /// `name = value` of a register.
 pub fn make_initialized_register(stack: &mut Vec<Value>) -> Result<bool, AllocError>
-    ensures { IfOk result (λ fits. Fits fits (reverse stack.new.items) (declare_act DeclareAction.InitializedRegister (reverse stack.old.items))) }
+    ensures { IfOk result (λ fits. Fits fits (reverse stack.new.items) (after_declaration_action DeclarationAction.InitializedRegister (reverse stack.old.items))) }
 {
     let value = take_expr(stack);
     let name = take_name(stack);
@@ -308,7 +308,7 @@ pub fn make_initialized_register(stack: &mut Vec<Value>) -> Result<bool, AllocEr
 
 /// A name and the range of its words.
 pub fn make_memory(stack: &mut Vec<Value>) -> Result<bool, AllocError>
-    ensures { IfOk result (λ fits. Fits fits (reverse stack.new.items) (declare_act DeclareAction.Memory (reverse stack.old.items))) }
+    ensures { IfOk result (λ fits. Fits fits (reverse stack.new.items) (after_declaration_action DeclarationAction.Memory (reverse stack.old.items))) }
 {
     let range = take_range(stack);
     let name = take_name(stack);
@@ -327,7 +327,7 @@ pub fn make_memory(stack: &mut Vec<Value>) -> Result<bool, AllocError>
 
 /// No registers yet.
 pub fn make_no_registers(alloc: Global, stack: &mut Vec<Value>) -> Result<bool, AllocError>
-    ensures { IfOk result (λ fits. Fits fits (reverse stack.new.items) (declare_act DeclareAction.NoRegisters (reverse stack.old.items))) }
+    ensures { IfOk result (λ fits. Fits fits (reverse stack.new.items) (after_declaration_action DeclarationAction.NoRegisters (reverse stack.old.items))) }
 {
     put(
         stack,
@@ -338,7 +338,7 @@ pub fn make_no_registers(alloc: Global, stack: &mut Vec<Value>) -> Result<bool, 
 
 /// One more of the registers.
 pub fn make_add_register(stack: &mut Vec<Value>) -> Result<bool, AllocError>
-    ensures { IfOk result (λ fits. Fits fits (reverse stack.new.items) (declare_act DeclareAction.AddRegister (reverse stack.old.items))) }
+    ensures { IfOk result (λ fits. Fits fits (reverse stack.new.items) (after_declaration_action DeclarationAction.AddRegister (reverse stack.old.items))) }
 {
     let register = take_register(stack);
     let registers = take_registers(stack);

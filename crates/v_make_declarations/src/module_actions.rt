@@ -1,7 +1,7 @@
 //! Actions of items, headers and modules (IEEE 1364-2005, clause 12).
 
 ghost use Rattle.std.specs.Prelude.{IfOk, reverse};
-ghost use Rattle.v_actions.specs.Module.{module_act};
+ghost use Rattle.v_actions.specs.ModuleActions.{after_module_action};
 ghost use Rattle.v_actions.specs.declared.actions.ModuleAction.TheVariants as ModuleAction;
 ghost use Rattle.v_stack.specs.Values.{Fits};
 
@@ -23,7 +23,7 @@ use v_tree::{
 
 /// `input ..;`
 pub fn make_port_item(stack: &mut Vec<Value>) -> Result<bool, AllocError>
-    ensures { IfOk result (λ fits. Fits fits (reverse stack.new.items) (module_act ModuleAction.PortItem (reverse stack.old.items))) }
+    ensures { IfOk result (λ fits. Fits fits (reverse stack.new.items) (after_module_action ModuleAction.PortItem (reverse stack.old.items))) }
 {
     let names = take_declared_names(stack);
     let range = take_range_option(stack);
@@ -50,7 +50,7 @@ pub fn make_port_item(stack: &mut Vec<Value>) -> Result<bool, AllocError>
 
 /// `wire ..;`
 pub fn make_net_item(stack: &mut Vec<Value>) -> Result<bool, AllocError>
-    ensures { IfOk result (λ fits. Fits fits (reverse stack.new.items) (module_act ModuleAction.NetItem (reverse stack.old.items))) }
+    ensures { IfOk result (λ fits. Fits fits (reverse stack.new.items) (after_module_action ModuleAction.NetItem (reverse stack.old.items))) }
 {
     let nets = take_declarators(stack);
     let range = take_range_option(stack);
@@ -73,7 +73,7 @@ pub fn make_net_item(stack: &mut Vec<Value>) -> Result<bool, AllocError>
 
 /// `reg ..;`
 pub fn make_reg_item(stack: &mut Vec<Value>) -> Result<bool, AllocError>
-    ensures { IfOk result (λ fits. Fits fits (reverse stack.new.items) (module_act ModuleAction.RegItem (reverse stack.old.items))) }
+    ensures { IfOk result (λ fits. Fits fits (reverse stack.new.items) (after_module_action ModuleAction.RegItem (reverse stack.old.items))) }
 {
     let registers = take_registers(stack);
     let range = take_range_option(stack);
@@ -96,7 +96,7 @@ pub fn make_reg_item(stack: &mut Vec<Value>) -> Result<bool, AllocError>
 
 /// `integer ..;`
 pub fn make_integer_item(stack: &mut Vec<Value>) -> Result<bool, AllocError>
-    ensures { IfOk result (λ fits. Fits fits (reverse stack.new.items) (module_act ModuleAction.IntegerItem (reverse stack.old.items))) }
+    ensures { IfOk result (λ fits. Fits fits (reverse stack.new.items) (after_module_action ModuleAction.IntegerItem (reverse stack.old.items))) }
 {
     let names = take_declared_names(stack);
     let place = take_place(stack);
@@ -112,7 +112,7 @@ pub fn make_integer_item(stack: &mut Vec<Value>) -> Result<bool, AllocError>
 
 /// `parameter ..;`
 pub fn make_parameter_item(stack: &mut Vec<Value>) -> Result<bool, AllocError>
-    ensures { IfOk result (λ fits. Fits fits (reverse stack.new.items) (module_act ModuleAction.ParameterItem (reverse stack.old.items))) }
+    ensures { IfOk result (λ fits. Fits fits (reverse stack.new.items) (after_module_action ModuleAction.ParameterItem (reverse stack.old.items))) }
 {
     let parameters = take_parameters(stack);
     let range = take_parameter_range(stack);
@@ -133,7 +133,7 @@ pub fn make_parameter_item(stack: &mut Vec<Value>) -> Result<bool, AllocError>
 
 /// `localparam ..;`
 pub fn make_local_parameter_item(stack: &mut Vec<Value>) -> Result<bool, AllocError>
-    ensures { IfOk result (λ fits. Fits fits (reverse stack.new.items) (module_act ModuleAction.LocalParameterItem (reverse stack.old.items))) }
+    ensures { IfOk result (λ fits. Fits fits (reverse stack.new.items) (after_module_action ModuleAction.LocalParameterItem (reverse stack.old.items))) }
 {
     let parameters = take_parameters(stack);
     let range = take_parameter_range(stack);
@@ -154,7 +154,7 @@ pub fn make_local_parameter_item(stack: &mut Vec<Value>) -> Result<bool, AllocEr
 
 /// `assign ..;`
 pub fn make_assign_item(stack: &mut Vec<Value>) -> Result<bool, AllocError>
-    ensures { IfOk result (λ fits. Fits fits (reverse stack.new.items) (module_act ModuleAction.AssignItem (reverse stack.old.items))) }
+    ensures { IfOk result (λ fits. Fits fits (reverse stack.new.items) (after_module_action ModuleAction.AssignItem (reverse stack.old.items))) }
 {
     let assignments = take_net_assignments(stack);
     let place = take_place(stack);
@@ -170,7 +170,7 @@ pub fn make_assign_item(stack: &mut Vec<Value>) -> Result<bool, AllocError>
 
 /// `always event body`
 pub fn make_always_item(stack: &mut Vec<Value>) -> Result<bool, AllocError>
-    ensures { IfOk result (λ fits. Fits fits (reverse stack.new.items) (module_act ModuleAction.AlwaysItem (reverse stack.old.items))) }
+    ensures { IfOk result (λ fits. Fits fits (reverse stack.new.items) (after_module_action ModuleAction.AlwaysItem (reverse stack.old.items))) }
 {
     let body = take_stmt(stack);
     let event = take_event(stack);
@@ -187,7 +187,7 @@ pub fn make_always_item(stack: &mut Vec<Value>) -> Result<bool, AllocError>
 
 /// `initial body`
 pub fn make_initial_item(stack: &mut Vec<Value>) -> Result<bool, AllocError>
-    ensures { IfOk result (λ fits. Fits fits (reverse stack.new.items) (module_act ModuleAction.InitialItem (reverse stack.old.items))) }
+    ensures { IfOk result (λ fits. Fits fits (reverse stack.new.items) (after_module_action ModuleAction.InitialItem (reverse stack.old.items))) }
 {
     let body = take_stmt(stack);
     let place = take_place(stack);
@@ -203,7 +203,7 @@ pub fn make_initial_item(stack: &mut Vec<Value>) -> Result<bool, AllocError>
 
 /// Instances of a module.
 pub fn make_instances_item(stack: &mut Vec<Value>) -> Result<bool, AllocError>
-    ensures { IfOk result (λ fits. Fits fits (reverse stack.new.items) (module_act ModuleAction.InstancesItem (reverse stack.old.items))) }
+    ensures { IfOk result (λ fits. Fits fits (reverse stack.new.items) (after_module_action ModuleAction.InstancesItem (reverse stack.old.items))) }
 {
     let instances = take_instances(stack);
     let overrides = take_overrides(stack);
@@ -224,7 +224,7 @@ pub fn make_instances_item(stack: &mut Vec<Value>) -> Result<bool, AllocError>
 
 /// No items yet.
 pub fn make_no_items(alloc: Global, stack: &mut Vec<Value>) -> Result<bool, AllocError>
-    ensures { IfOk result (λ fits. Fits fits (reverse stack.new.items) (module_act ModuleAction.NoItems (reverse stack.old.items))) }
+    ensures { IfOk result (λ fits. Fits fits (reverse stack.new.items) (after_module_action ModuleAction.NoItems (reverse stack.old.items))) }
 {
     put(stack, Value::Module(ModuleValue::Items(Items::new(alloc))))?;
     Ok(true)
@@ -232,7 +232,7 @@ pub fn make_no_items(alloc: Global, stack: &mut Vec<Value>) -> Result<bool, Allo
 
 /// One more of the items.
 pub fn make_add_item(stack: &mut Vec<Value>) -> Result<bool, AllocError>
-    ensures { IfOk result (λ fits. Fits fits (reverse stack.new.items) (module_act ModuleAction.AddItem (reverse stack.old.items))) }
+    ensures { IfOk result (λ fits. Fits fits (reverse stack.new.items) (after_module_action ModuleAction.AddItem (reverse stack.old.items))) }
 {
     let item = take_item(stack);
     let items = take_items(stack);
@@ -246,7 +246,7 @@ pub fn make_add_item(stack: &mut Vec<Value>) -> Result<bool, AllocError>
 
 /// No parameters in a header yet.
 pub fn make_no_groups(alloc: Global, stack: &mut Vec<Value>) -> Result<bool, AllocError>
-    ensures { IfOk result (λ fits. Fits fits (reverse stack.new.items) (module_act ModuleAction.NoGroups (reverse stack.old.items))) }
+    ensures { IfOk result (λ fits. Fits fits (reverse stack.new.items) (after_module_action ModuleAction.NoGroups (reverse stack.old.items))) }
 {
     put(
         stack,
@@ -257,7 +257,7 @@ pub fn make_no_groups(alloc: Global, stack: &mut Vec<Value>) -> Result<bool, All
 
 /// One more `parameter ..` of a header.
 pub fn make_close_group(stack: &mut Vec<Value>) -> Result<bool, AllocError>
-    ensures { IfOk result (λ fits. Fits fits (reverse stack.new.items) (module_act ModuleAction.CloseGroup (reverse stack.old.items))) }
+    ensures { IfOk result (λ fits. Fits fits (reverse stack.new.items) (after_module_action ModuleAction.CloseGroup (reverse stack.old.items))) }
 {
     let parameters = take_parameters(stack);
     let range = take_parameter_range(stack);
@@ -278,7 +278,7 @@ pub fn make_close_group(stack: &mut Vec<Value>) -> Result<bool, AllocError>
 
 /// No ports in a header yet.
 pub fn make_no_ports(alloc: Global, stack: &mut Vec<Value>) -> Result<bool, AllocError>
-    ensures { IfOk result (λ fits. Fits fits (reverse stack.new.items) (module_act ModuleAction.NoPorts (reverse stack.old.items))) }
+    ensures { IfOk result (λ fits. Fits fits (reverse stack.new.items) (after_module_action ModuleAction.NoPorts (reverse stack.old.items))) }
 {
     put(stack, Value::Module(ModuleValue::Ports(Items::new(alloc))))?;
     Ok(true)
@@ -286,7 +286,7 @@ pub fn make_no_ports(alloc: Global, stack: &mut Vec<Value>) -> Result<bool, Allo
 
 /// One more `input ..` of a header.
 pub fn make_close_port(stack: &mut Vec<Value>) -> Result<bool, AllocError>
-    ensures { IfOk result (λ fits. Fits fits (reverse stack.new.items) (module_act ModuleAction.ClosePort (reverse stack.old.items))) }
+    ensures { IfOk result (λ fits. Fits fits (reverse stack.new.items) (after_module_action ModuleAction.ClosePort (reverse stack.old.items))) }
 {
     let names = take_declarators(stack);
     let range = take_range_option(stack);
@@ -312,7 +312,7 @@ pub fn make_close_port(stack: &mut Vec<Value>) -> Result<bool, AllocError>
 
 /// No header.
 pub fn make_absent_header(stack: &mut Vec<Value>) -> Result<bool, AllocError>
-    ensures { IfOk result (λ fits. Fits fits (reverse stack.new.items) (module_act ModuleAction.AbsentHeader (reverse stack.old.items))) }
+    ensures { IfOk result (λ fits. Fits fits (reverse stack.new.items) (after_module_action ModuleAction.AbsentHeader (reverse stack.old.items))) }
 {
     put(stack, Value::Module(ModuleValue::Header(Header::Absent)))?;
     Ok(true)
@@ -320,7 +320,7 @@ pub fn make_absent_header(stack: &mut Vec<Value>) -> Result<bool, AllocError>
 
 /// `( )`
 pub fn make_empty_header(stack: &mut Vec<Value>) -> Result<bool, AllocError>
-    ensures { IfOk result (λ fits. Fits fits (reverse stack.new.items) (module_act ModuleAction.EmptyHeader (reverse stack.old.items))) }
+    ensures { IfOk result (λ fits. Fits fits (reverse stack.new.items) (after_module_action ModuleAction.EmptyHeader (reverse stack.old.items))) }
 {
     put(stack, Value::Module(ModuleValue::Header(Header::Empty)))?;
     Ok(true)
@@ -328,7 +328,7 @@ pub fn make_empty_header(stack: &mut Vec<Value>) -> Result<bool, AllocError>
 
 /// `( a, b )`
 pub fn make_header_names(stack: &mut Vec<Value>) -> Result<bool, AllocError>
-    ensures { IfOk result (λ fits. Fits fits (reverse stack.new.items) (module_act ModuleAction.HeaderNames (reverse stack.old.items))) }
+    ensures { IfOk result (λ fits. Fits fits (reverse stack.new.items) (after_module_action ModuleAction.HeaderNames (reverse stack.old.items))) }
 {
     let Some(names) = take_names(stack) else {
         return Ok(false);
@@ -342,7 +342,7 @@ pub fn make_header_names(stack: &mut Vec<Value>) -> Result<bool, AllocError>
 
 /// `( input a, output b )`
 pub fn make_header_ports(stack: &mut Vec<Value>) -> Result<bool, AllocError>
-    ensures { IfOk result (λ fits. Fits fits (reverse stack.new.items) (module_act ModuleAction.HeaderPorts (reverse stack.old.items))) }
+    ensures { IfOk result (λ fits. Fits fits (reverse stack.new.items) (after_module_action ModuleAction.HeaderPorts (reverse stack.old.items))) }
 {
     let Some(ports) = take_ports(stack) else {
         return Ok(false);
@@ -356,7 +356,7 @@ pub fn make_header_ports(stack: &mut Vec<Value>) -> Result<bool, AllocError>
 
 /// `module name .. endmodule`
 pub fn make_module(stack: &mut Vec<Value>) -> Result<bool, AllocError>
-    ensures { IfOk result (λ fits. Fits fits (reverse stack.new.items) (module_act ModuleAction.Module (reverse stack.old.items))) }
+    ensures { IfOk result (λ fits. Fits fits (reverse stack.new.items) (after_module_action ModuleAction.Module (reverse stack.old.items))) }
 {
     let items = take_items(stack);
     let header = take_header(stack);
@@ -382,7 +382,7 @@ pub fn make_module(stack: &mut Vec<Value>) -> Result<bool, AllocError>
 
 /// No modules yet.
 pub fn make_no_modules(alloc: Global, stack: &mut Vec<Value>) -> Result<bool, AllocError>
-    ensures { IfOk result (λ fits. Fits fits (reverse stack.new.items) (module_act ModuleAction.NoModules (reverse stack.old.items))) }
+    ensures { IfOk result (λ fits. Fits fits (reverse stack.new.items) (after_module_action ModuleAction.NoModules (reverse stack.old.items))) }
 {
     put(
         stack,
@@ -393,7 +393,7 @@ pub fn make_no_modules(alloc: Global, stack: &mut Vec<Value>) -> Result<bool, Al
 
 /// One more of the modules.
 pub fn make_add_module(stack: &mut Vec<Value>) -> Result<bool, AllocError>
-    ensures { IfOk result (λ fits. Fits fits (reverse stack.new.items) (module_act ModuleAction.AddModule (reverse stack.old.items))) }
+    ensures { IfOk result (λ fits. Fits fits (reverse stack.new.items) (after_module_action ModuleAction.AddModule (reverse stack.old.items))) }
 {
     let unit = take_module(stack);
     let units = take_modules(stack);
@@ -407,7 +407,7 @@ pub fn make_add_module(stack: &mut Vec<Value>) -> Result<bool, AllocError>
 
 /// The whole text.
 pub fn make_source(stack: &mut Vec<Value>) -> Result<bool, AllocError>
-    ensures { IfOk result (λ fits. Fits fits (reverse stack.new.items) (module_act ModuleAction.Source (reverse stack.old.items))) }
+    ensures { IfOk result (λ fits. Fits fits (reverse stack.new.items) (after_module_action ModuleAction.Source (reverse stack.old.items))) }
 {
     let Some(modules) = take_modules(stack) else {
         return Ok(false);

@@ -1,8 +1,8 @@
 //! Actions of expressions (IEEE 1364-2005, clause 5).
 
 ghost use Rattle.std.specs.Prelude.{IfOk, reverse};
-ghost use Rattle.v_actions.specs.Expr.{expr_act};
-ghost use Rattle.v_actions.specs.declared.actions.ExprAction.TheVariants as ExprAction;
+ghost use Rattle.v_actions.specs.ExpressionActions.{after_expression_action};
+ghost use Rattle.v_actions.specs.declared.actions.ExpressionAction.TheVariants as ExpressionAction;
 ghost use Rattle.v_stack.specs.Values.{Fits};
 
 use sqlite_items::{Boxed, Items};
@@ -16,7 +16,7 @@ use v_tree::{Expr, Literal, Selection};
 
 /// `12`
 pub fn make_decimal_literal(stack: &mut Vec<Value>) -> Result<bool, AllocError>
-    ensures { IfOk result (λ fits. Fits fits (reverse stack.new.items) (expr_act ExprAction.DecimalLiteral (reverse stack.old.items))) }
+    ensures { IfOk result (λ fits. Fits fits (reverse stack.new.items) (after_expression_action ExpressionAction.DecimalLiteral (reverse stack.old.items))) }
 {
     let Some(number) = take_decimal(stack) else {
         return Ok(false);
@@ -30,7 +30,7 @@ pub fn make_decimal_literal(stack: &mut Vec<Value>) -> Result<bool, AllocError>
 
 /// `'hf`
 pub fn make_based_literal(stack: &mut Vec<Value>) -> Result<bool, AllocError>
-    ensures { IfOk result (λ fits. Fits fits (reverse stack.new.items) (expr_act ExprAction.BasedLiteral (reverse stack.old.items))) }
+    ensures { IfOk result (λ fits. Fits fits (reverse stack.new.items) (after_expression_action ExpressionAction.BasedLiteral (reverse stack.old.items))) }
 {
     let Some(number) = take_based(stack) else {
         return Ok(false);
@@ -44,7 +44,7 @@ pub fn make_based_literal(stack: &mut Vec<Value>) -> Result<bool, AllocError>
 
 /// `4'hf`
 pub fn make_sized_literal(stack: &mut Vec<Value>) -> Result<bool, AllocError>
-    ensures { IfOk result (λ fits. Fits fits (reverse stack.new.items) (expr_act ExprAction.SizedLiteral (reverse stack.old.items))) }
+    ensures { IfOk result (λ fits. Fits fits (reverse stack.new.items) (after_expression_action ExpressionAction.SizedLiteral (reverse stack.old.items))) }
 {
     let number = take_based(stack);
     let size = take_decimal(stack);
@@ -60,7 +60,7 @@ pub fn make_sized_literal(stack: &mut Vec<Value>) -> Result<bool, AllocError>
 
 /// `name`
 pub fn make_name_alone(stack: &mut Vec<Value>) -> Result<bool, AllocError>
-    ensures { IfOk result (λ fits. Fits fits (reverse stack.new.items) (expr_act ExprAction.NameAlone (reverse stack.old.items))) }
+    ensures { IfOk result (λ fits. Fits fits (reverse stack.new.items) (after_expression_action ExpressionAction.NameAlone (reverse stack.old.items))) }
 {
     let Some(name) = take_name(stack) else {
         return Ok(false);
@@ -71,7 +71,7 @@ pub fn make_name_alone(stack: &mut Vec<Value>) -> Result<bool, AllocError>
 
 /// `name [ selection ]`
 pub fn make_select(alloc: Global, stack: &mut Vec<Value>) -> Result<bool, AllocError>
-    ensures { IfOk result (λ fits. Fits fits (reverse stack.new.items) (expr_act ExprAction.Select (reverse stack.old.items))) }
+    ensures { IfOk result (λ fits. Fits fits (reverse stack.new.items) (after_expression_action ExpressionAction.Select (reverse stack.old.items))) }
 {
     let selection = take_selection(stack);
     let name = take_name(stack);
@@ -88,7 +88,7 @@ pub fn make_select(alloc: Global, stack: &mut Vec<Value>) -> Result<bool, AllocE
 
 /// An operator before its operand.
 pub fn make_unary(alloc: Global, stack: &mut Vec<Value>) -> Result<bool, AllocError>
-    ensures { IfOk result (λ fits. Fits fits (reverse stack.new.items) (expr_act ExprAction.Unary (reverse stack.old.items))) }
+    ensures { IfOk result (λ fits. Fits fits (reverse stack.new.items) (after_expression_action ExpressionAction.Unary (reverse stack.old.items))) }
 {
     let operand = take_expr(stack);
     let operator = take_unary_operator(stack);
@@ -105,7 +105,7 @@ pub fn make_unary(alloc: Global, stack: &mut Vec<Value>) -> Result<bool, AllocEr
 
 /// An operator between its operands.
 pub fn make_binary(alloc: Global, stack: &mut Vec<Value>) -> Result<bool, AllocError>
-    ensures { IfOk result (λ fits. Fits fits (reverse stack.new.items) (expr_act ExprAction.Binary (reverse stack.old.items))) }
+    ensures { IfOk result (λ fits. Fits fits (reverse stack.new.items) (after_expression_action ExpressionAction.Binary (reverse stack.old.items))) }
 {
     let right = take_expr(stack);
     let operator = take_binary_operator(stack);
@@ -123,7 +123,7 @@ pub fn make_binary(alloc: Global, stack: &mut Vec<Value>) -> Result<bool, AllocE
 
 /// `condition ? one : other`
 pub fn make_conditional(alloc: Global, stack: &mut Vec<Value>) -> Result<bool, AllocError>
-    ensures { IfOk result (λ fits. Fits fits (reverse stack.new.items) (expr_act ExprAction.Conditional (reverse stack.old.items))) }
+    ensures { IfOk result (λ fits. Fits fits (reverse stack.new.items) (after_expression_action ExpressionAction.Conditional (reverse stack.old.items))) }
 {
     let other = take_expr(stack);
     let one = take_expr(stack);
@@ -141,7 +141,7 @@ pub fn make_conditional(alloc: Global, stack: &mut Vec<Value>) -> Result<bool, A
 
 /// `( inner )`
 pub fn make_parentheses(alloc: Global, stack: &mut Vec<Value>) -> Result<bool, AllocError>
-    ensures { IfOk result (λ fits. Fits fits (reverse stack.new.items) (expr_act ExprAction.Parentheses (reverse stack.old.items))) }
+    ensures { IfOk result (λ fits. Fits fits (reverse stack.new.items) (after_expression_action ExpressionAction.Parentheses (reverse stack.old.items))) }
 {
     let inner = take_expr(stack);
     let place = take_place(stack);
@@ -158,7 +158,7 @@ pub fn make_parentheses(alloc: Global, stack: &mut Vec<Value>) -> Result<bool, A
 
 /// `{ a, b }`
 pub fn make_concatenation(stack: &mut Vec<Value>) -> Result<bool, AllocError>
-    ensures { IfOk result (λ fits. Fits fits (reverse stack.new.items) (expr_act ExprAction.Concatenation (reverse stack.old.items))) }
+    ensures { IfOk result (λ fits. Fits fits (reverse stack.new.items) (after_expression_action ExpressionAction.Concatenation (reverse stack.old.items))) }
 {
     let parts = take_exprs(stack);
     let place = take_place(stack);
@@ -174,7 +174,7 @@ pub fn make_concatenation(stack: &mut Vec<Value>) -> Result<bool, AllocError>
 
 /// `{ count { a, b } }`
 pub fn make_replication(alloc: Global, stack: &mut Vec<Value>) -> Result<bool, AllocError>
-    ensures { IfOk result (λ fits. Fits fits (reverse stack.new.items) (expr_act ExprAction.Replication (reverse stack.old.items))) }
+    ensures { IfOk result (λ fits. Fits fits (reverse stack.new.items) (after_expression_action ExpressionAction.Replication (reverse stack.old.items))) }
 {
     let parts = take_exprs(stack);
     let count = take_expr(stack);
@@ -192,7 +192,7 @@ pub fn make_replication(alloc: Global, stack: &mut Vec<Value>) -> Result<bool, A
 
 /// `$signed ( operand )`
 pub fn make_signed_call(alloc: Global, stack: &mut Vec<Value>) -> Result<bool, AllocError>
-    ensures { IfOk result (λ fits. Fits fits (reverse stack.new.items) (expr_act ExprAction.SignedCall (reverse stack.old.items))) }
+    ensures { IfOk result (λ fits. Fits fits (reverse stack.new.items) (after_expression_action ExpressionAction.SignedCall (reverse stack.old.items))) }
 {
     let operand = take_expr(stack);
     let place = take_place(stack);
@@ -209,7 +209,7 @@ pub fn make_signed_call(alloc: Global, stack: &mut Vec<Value>) -> Result<bool, A
 
 /// `$unsigned ( operand )`
 pub fn make_unsigned_call(alloc: Global, stack: &mut Vec<Value>) -> Result<bool, AllocError>
-    ensures { IfOk result (λ fits. Fits fits (reverse stack.new.items) (expr_act ExprAction.UnsignedCall (reverse stack.old.items))) }
+    ensures { IfOk result (λ fits. Fits fits (reverse stack.new.items) (after_expression_action ExpressionAction.UnsignedCall (reverse stack.old.items))) }
 {
     let operand = take_expr(stack);
     let place = take_place(stack);
@@ -226,7 +226,7 @@ pub fn make_unsigned_call(alloc: Global, stack: &mut Vec<Value>) -> Result<bool,
 
 /// `index`
 pub fn make_index_selection(alloc: Global, stack: &mut Vec<Value>) -> Result<bool, AllocError>
-    ensures { IfOk result (λ fits. Fits fits (reverse stack.new.items) (expr_act ExprAction.IndexSelection (reverse stack.old.items))) }
+    ensures { IfOk result (λ fits. Fits fits (reverse stack.new.items) (after_expression_action ExpressionAction.IndexSelection (reverse stack.old.items))) }
 {
     let Some(index) = take_expr(stack) else {
         return Ok(false);
@@ -241,7 +241,7 @@ pub fn make_index_selection(alloc: Global, stack: &mut Vec<Value>) -> Result<boo
 
 /// `high : low`
 pub fn make_range_selection(alloc: Global, stack: &mut Vec<Value>) -> Result<bool, AllocError>
-    ensures { IfOk result (λ fits. Fits fits (reverse stack.new.items) (expr_act ExprAction.RangeSelection (reverse stack.old.items))) }
+    ensures { IfOk result (λ fits. Fits fits (reverse stack.new.items) (after_expression_action ExpressionAction.RangeSelection (reverse stack.old.items))) }
 {
     let low = take_expr(stack);
     let high = take_expr(stack);
@@ -258,7 +258,7 @@ pub fn make_range_selection(alloc: Global, stack: &mut Vec<Value>) -> Result<boo
 
 /// `base +: width`
 pub fn make_up_selection(alloc: Global, stack: &mut Vec<Value>) -> Result<bool, AllocError>
-    ensures { IfOk result (λ fits. Fits fits (reverse stack.new.items) (expr_act ExprAction.UpSelection (reverse stack.old.items))) }
+    ensures { IfOk result (λ fits. Fits fits (reverse stack.new.items) (after_expression_action ExpressionAction.UpSelection (reverse stack.old.items))) }
 {
     let width = take_expr(stack);
     let base = take_expr(stack);
@@ -275,7 +275,7 @@ pub fn make_up_selection(alloc: Global, stack: &mut Vec<Value>) -> Result<bool, 
 
 /// `base -: width`
 pub fn make_down_selection(alloc: Global, stack: &mut Vec<Value>) -> Result<bool, AllocError>
-    ensures { IfOk result (λ fits. Fits fits (reverse stack.new.items) (expr_act ExprAction.DownSelection (reverse stack.old.items))) }
+    ensures { IfOk result (λ fits. Fits fits (reverse stack.new.items) (after_expression_action ExpressionAction.DownSelection (reverse stack.old.items))) }
 {
     let width = take_expr(stack);
     let base = take_expr(stack);
@@ -292,7 +292,7 @@ pub fn make_down_selection(alloc: Global, stack: &mut Vec<Value>) -> Result<bool
 
 /// No expressions yet.
 pub fn make_no_exprs(alloc: Global, stack: &mut Vec<Value>) -> Result<bool, AllocError>
-    ensures { IfOk result (λ fits. Fits fits (reverse stack.new.items) (expr_act ExprAction.NoExprs (reverse stack.old.items))) }
+    ensures { IfOk result (λ fits. Fits fits (reverse stack.new.items) (after_expression_action ExpressionAction.NoExprs (reverse stack.old.items))) }
 {
     put(stack, Value::Expr(ExprValue::Exprs(Items::new(alloc))))?;
     Ok(true)
@@ -300,7 +300,7 @@ pub fn make_no_exprs(alloc: Global, stack: &mut Vec<Value>) -> Result<bool, Allo
 
 /// One more of the expressions.
 pub fn make_add_expr(stack: &mut Vec<Value>) -> Result<bool, AllocError>
-    ensures { IfOk result (λ fits. Fits fits (reverse stack.new.items) (expr_act ExprAction.AddExpr (reverse stack.old.items))) }
+    ensures { IfOk result (λ fits. Fits fits (reverse stack.new.items) (after_expression_action ExpressionAction.AddExpr (reverse stack.old.items))) }
 {
     let expr = take_expr(stack);
     let exprs = take_exprs(stack);
@@ -314,7 +314,7 @@ pub fn make_add_expr(stack: &mut Vec<Value>) -> Result<bool, AllocError>
 
 /// The first part of a concatenation.
 pub fn make_first_expr(alloc: Global, stack: &mut Vec<Value>) -> Result<bool, AllocError>
-    ensures { IfOk result (λ fits. Fits fits (reverse stack.new.items) (expr_act ExprAction.FirstExpr (reverse stack.old.items))) }
+    ensures { IfOk result (λ fits. Fits fits (reverse stack.new.items) (after_expression_action ExpressionAction.FirstExpr (reverse stack.old.items))) }
 {
     let Some(expr) = take_expr(stack) else {
         return Ok(false);
@@ -328,7 +328,7 @@ pub fn make_first_expr(alloc: Global, stack: &mut Vec<Value>) -> Result<bool, Al
 
 /// A value that is given.
 pub fn make_some_expr(stack: &mut Vec<Value>) -> Result<bool, AllocError>
-    ensures { IfOk result (λ fits. Fits fits (reverse stack.new.items) (expr_act ExprAction.SomeExpr (reverse stack.old.items))) }
+    ensures { IfOk result (λ fits. Fits fits (reverse stack.new.items) (after_expression_action ExpressionAction.SomeExpr (reverse stack.old.items))) }
 {
     let Some(value) = take_expr(stack) else {
         return Ok(false);
@@ -339,7 +339,7 @@ pub fn make_some_expr(stack: &mut Vec<Value>) -> Result<bool, AllocError>
 
 /// No value.
 pub fn make_no_expr(stack: &mut Vec<Value>) -> Result<bool, AllocError>
-    ensures { IfOk result (λ fits. Fits fits (reverse stack.new.items) (expr_act ExprAction.NoExpr (reverse stack.old.items))) }
+    ensures { IfOk result (λ fits. Fits fits (reverse stack.new.items) (after_expression_action ExpressionAction.NoExpr (reverse stack.old.items))) }
 {
     put(stack, Value::Expr(ExprValue::ExprOption(None)))?;
     Ok(true)

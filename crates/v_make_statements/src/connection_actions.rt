@@ -1,8 +1,8 @@
 //! Actions of connections, continuous assignments and events (IEEE 1364-2005, 6.1, 9.7 and 12.3).
 
 ghost use Rattle.std.specs.Prelude.{IfOk, reverse};
-ghost use Rattle.v_actions.specs.Connect.{connect_act};
-ghost use Rattle.v_actions.specs.declared.actions.ConnectAction.TheVariants as ConnectAction;
+ghost use Rattle.v_actions.specs.ConnectionActions.{after_connection_action};
+ghost use Rattle.v_actions.specs.declared.actions.ConnectionAction.TheVariants as ConnectionAction;
 ghost use Rattle.v_stack.specs.Values.{Fits};
 
 use sqlite_items::Items;
@@ -18,7 +18,7 @@ use v_tree::{Connections, Event, Instance, NamedConnection, NetAssignment};
 
 /// A connection by position.
 pub fn make_ordered(stack: &mut Vec<Value>) -> Result<bool, AllocError>
-    ensures { IfOk result (λ fits. Fits fits (reverse stack.new.items) (connect_act ConnectAction.Ordered (reverse stack.old.items))) }
+    ensures { IfOk result (λ fits. Fits fits (reverse stack.new.items) (after_connection_action ConnectionAction.Ordered (reverse stack.old.items))) }
 {
     let Some(value) = take_expr(stack) else {
         return Ok(false);
@@ -29,7 +29,7 @@ pub fn make_ordered(stack: &mut Vec<Value>) -> Result<bool, AllocError>
 
 /// No connections by position yet.
 pub fn make_no_ordered(alloc: Global, stack: &mut Vec<Value>) -> Result<bool, AllocError>
-    ensures { IfOk result (λ fits. Fits fits (reverse stack.new.items) (connect_act ConnectAction.NoOrdered (reverse stack.old.items))) }
+    ensures { IfOk result (λ fits. Fits fits (reverse stack.new.items) (after_connection_action ConnectionAction.NoOrdered (reverse stack.old.items))) }
 {
     put(
         stack,
@@ -40,7 +40,7 @@ pub fn make_no_ordered(alloc: Global, stack: &mut Vec<Value>) -> Result<bool, Al
 
 /// One more of the connections by position.
 pub fn make_add_ordered(stack: &mut Vec<Value>) -> Result<bool, AllocError>
-    ensures { IfOk result (λ fits. Fits fits (reverse stack.new.items) (connect_act ConnectAction.AddOrdered (reverse stack.old.items))) }
+    ensures { IfOk result (λ fits. Fits fits (reverse stack.new.items) (after_connection_action ConnectionAction.AddOrdered (reverse stack.old.items))) }
 {
     let value = take_ordered(stack);
     let values = take_ordered_values(stack);
@@ -54,7 +54,7 @@ pub fn make_add_ordered(stack: &mut Vec<Value>) -> Result<bool, AllocError>
 
 /// `. name ( value )`
 pub fn make_named(stack: &mut Vec<Value>) -> Result<bool, AllocError>
-    ensures { IfOk result (λ fits. Fits fits (reverse stack.new.items) (connect_act ConnectAction.Named (reverse stack.old.items))) }
+    ensures { IfOk result (λ fits. Fits fits (reverse stack.new.items) (after_connection_action ConnectionAction.Named (reverse stack.old.items))) }
 {
     let value = take_expr_option(stack);
     let name = take_name(stack);
@@ -71,7 +71,7 @@ pub fn make_named(stack: &mut Vec<Value>) -> Result<bool, AllocError>
 
 /// No connections by name yet.
 pub fn make_no_named(alloc: Global, stack: &mut Vec<Value>) -> Result<bool, AllocError>
-    ensures { IfOk result (λ fits. Fits fits (reverse stack.new.items) (connect_act ConnectAction.NoNamed (reverse stack.old.items))) }
+    ensures { IfOk result (λ fits. Fits fits (reverse stack.new.items) (after_connection_action ConnectionAction.NoNamed (reverse stack.old.items))) }
 {
     put(
         stack,
@@ -82,7 +82,7 @@ pub fn make_no_named(alloc: Global, stack: &mut Vec<Value>) -> Result<bool, Allo
 
 /// One more of the connections by name.
 pub fn make_add_named(stack: &mut Vec<Value>) -> Result<bool, AllocError>
-    ensures { IfOk result (λ fits. Fits fits (reverse stack.new.items) (connect_act ConnectAction.AddNamed (reverse stack.old.items))) }
+    ensures { IfOk result (λ fits. Fits fits (reverse stack.new.items) (after_connection_action ConnectionAction.AddNamed (reverse stack.old.items))) }
 {
     let connection = take_named(stack);
     let connections = take_named_values(stack);
@@ -99,7 +99,7 @@ pub fn make_add_named(stack: &mut Vec<Value>) -> Result<bool, AllocError>
 
 /// No connections.
 pub fn make_no_connections(stack: &mut Vec<Value>) -> Result<bool, AllocError>
-    ensures { IfOk result (λ fits. Fits fits (reverse stack.new.items) (connect_act ConnectAction.NoConnections (reverse stack.old.items))) }
+    ensures { IfOk result (λ fits. Fits fits (reverse stack.new.items) (after_connection_action ConnectionAction.NoConnections (reverse stack.old.items))) }
 {
     put(
         stack,
@@ -110,7 +110,7 @@ pub fn make_no_connections(stack: &mut Vec<Value>) -> Result<bool, AllocError>
 
 /// All by position.
 pub fn make_ordered_connections(stack: &mut Vec<Value>) -> Result<bool, AllocError>
-    ensures { IfOk result (λ fits. Fits fits (reverse stack.new.items) (connect_act ConnectAction.OrderedConnections (reverse stack.old.items))) }
+    ensures { IfOk result (λ fits. Fits fits (reverse stack.new.items) (after_connection_action ConnectionAction.OrderedConnections (reverse stack.old.items))) }
 {
     let Some(values) = take_ordered_values(stack) else {
         return Ok(false);
@@ -124,7 +124,7 @@ pub fn make_ordered_connections(stack: &mut Vec<Value>) -> Result<bool, AllocErr
 
 /// All by name.
 pub fn make_named_connections(stack: &mut Vec<Value>) -> Result<bool, AllocError>
-    ensures { IfOk result (λ fits. Fits fits (reverse stack.new.items) (connect_act ConnectAction.NamedConnections (reverse stack.old.items))) }
+    ensures { IfOk result (λ fits. Fits fits (reverse stack.new.items) (after_connection_action ConnectionAction.NamedConnections (reverse stack.old.items))) }
 {
     let Some(values) = take_named_values(stack) else {
         return Ok(false);
@@ -138,7 +138,7 @@ pub fn make_named_connections(stack: &mut Vec<Value>) -> Result<bool, AllocError
 
 /// `# ( values )`
 pub fn make_some_overrides(stack: &mut Vec<Value>) -> Result<bool, AllocError>
-    ensures { IfOk result (λ fits. Fits fits (reverse stack.new.items) (connect_act ConnectAction.SomeOverrides (reverse stack.old.items))) }
+    ensures { IfOk result (λ fits. Fits fits (reverse stack.new.items) (after_connection_action ConnectionAction.SomeOverrides (reverse stack.old.items))) }
 {
     let Some(values) = take_connections(stack) else {
         return Ok(false);
@@ -149,7 +149,7 @@ pub fn make_some_overrides(stack: &mut Vec<Value>) -> Result<bool, AllocError>
 
 /// No `#`.
 pub fn make_no_overrides(stack: &mut Vec<Value>) -> Result<bool, AllocError>
-    ensures { IfOk result (λ fits. Fits fits (reverse stack.new.items) (connect_act ConnectAction.NoOverrides (reverse stack.old.items))) }
+    ensures { IfOk result (λ fits. Fits fits (reverse stack.new.items) (after_connection_action ConnectionAction.NoOverrides (reverse stack.old.items))) }
 {
     put(stack, Value::Connect(ConnectValue::Overrides(None)))?;
     Ok(true)
@@ -157,7 +157,7 @@ pub fn make_no_overrides(stack: &mut Vec<Value>) -> Result<bool, AllocError>
 
 /// `name ( connections )`
 pub fn make_instance(stack: &mut Vec<Value>) -> Result<bool, AllocError>
-    ensures { IfOk result (λ fits. Fits fits (reverse stack.new.items) (connect_act ConnectAction.Instance (reverse stack.old.items))) }
+    ensures { IfOk result (λ fits. Fits fits (reverse stack.new.items) (after_connection_action ConnectionAction.Instance (reverse stack.old.items))) }
 {
     let connections = take_connections(stack);
     let name = take_name(stack);
@@ -173,7 +173,7 @@ pub fn make_instance(stack: &mut Vec<Value>) -> Result<bool, AllocError>
 
 /// No instances yet.
 pub fn make_no_instances(alloc: Global, stack: &mut Vec<Value>) -> Result<bool, AllocError>
-    ensures { IfOk result (λ fits. Fits fits (reverse stack.new.items) (connect_act ConnectAction.NoInstances (reverse stack.old.items))) }
+    ensures { IfOk result (λ fits. Fits fits (reverse stack.new.items) (after_connection_action ConnectionAction.NoInstances (reverse stack.old.items))) }
 {
     put(stack, Value::Part(PartValue::Instances(Items::new(alloc))))?;
     Ok(true)
@@ -181,7 +181,7 @@ pub fn make_no_instances(alloc: Global, stack: &mut Vec<Value>) -> Result<bool, 
 
 /// One more of the instances.
 pub fn make_add_instance(stack: &mut Vec<Value>) -> Result<bool, AllocError>
-    ensures { IfOk result (λ fits. Fits fits (reverse stack.new.items) (connect_act ConnectAction.AddInstance (reverse stack.old.items))) }
+    ensures { IfOk result (λ fits. Fits fits (reverse stack.new.items) (after_connection_action ConnectionAction.AddInstance (reverse stack.old.items))) }
 {
     let instance = take_instance(stack);
     let instances = take_instances(stack);
@@ -195,7 +195,7 @@ pub fn make_add_instance(stack: &mut Vec<Value>) -> Result<bool, AllocError>
 
 /// `target = value` of `assign`.
 pub fn make_net_assignment(stack: &mut Vec<Value>) -> Result<bool, AllocError>
-    ensures { IfOk result (λ fits. Fits fits (reverse stack.new.items) (connect_act ConnectAction.NetAssignment (reverse stack.old.items))) }
+    ensures { IfOk result (λ fits. Fits fits (reverse stack.new.items) (after_connection_action ConnectionAction.NetAssignment (reverse stack.old.items))) }
 {
     let value = take_expr(stack);
     let target = take_target(stack);
@@ -211,7 +211,7 @@ pub fn make_net_assignment(stack: &mut Vec<Value>) -> Result<bool, AllocError>
 
 /// No assignments yet.
 pub fn make_no_net_assignments(alloc: Global, stack: &mut Vec<Value>) -> Result<bool, AllocError>
-    ensures { IfOk result (λ fits. Fits fits (reverse stack.new.items) (connect_act ConnectAction.NoNetAssignments (reverse stack.old.items))) }
+    ensures { IfOk result (λ fits. Fits fits (reverse stack.new.items) (after_connection_action ConnectionAction.NoNetAssignments (reverse stack.old.items))) }
 {
     put(
         stack,
@@ -222,7 +222,7 @@ pub fn make_no_net_assignments(alloc: Global, stack: &mut Vec<Value>) -> Result<
 
 /// One more of the assignments.
 pub fn make_add_net_assignment(stack: &mut Vec<Value>) -> Result<bool, AllocError>
-    ensures { IfOk result (λ fits. Fits fits (reverse stack.new.items) (connect_act ConnectAction.AddNetAssignment (reverse stack.old.items))) }
+    ensures { IfOk result (λ fits. Fits fits (reverse stack.new.items) (after_connection_action ConnectionAction.AddNetAssignment (reverse stack.old.items))) }
 {
     let assignment = take_net_assignment(stack);
     let assignments = take_net_assignments(stack);
@@ -236,7 +236,7 @@ pub fn make_add_net_assignment(stack: &mut Vec<Value>) -> Result<bool, AllocErro
 
 /// `*`
 pub fn make_any_event(stack: &mut Vec<Value>) -> Result<bool, AllocError>
-    ensures { IfOk result (λ fits. Fits fits (reverse stack.new.items) (connect_act ConnectAction.AnyEvent (reverse stack.old.items))) }
+    ensures { IfOk result (λ fits. Fits fits (reverse stack.new.items) (after_connection_action ConnectionAction.AnyEvent (reverse stack.old.items))) }
 {
     put(stack, Value::Part(PartValue::Event(Event::All)))?;
     Ok(true)
@@ -244,7 +244,7 @@ pub fn make_any_event(stack: &mut Vec<Value>) -> Result<bool, AllocError>
 
 /// `posedge clock`
 pub fn make_posedge_event(stack: &mut Vec<Value>) -> Result<bool, AllocError>
-    ensures { IfOk result (λ fits. Fits fits (reverse stack.new.items) (connect_act ConnectAction.PosedgeEvent (reverse stack.old.items))) }
+    ensures { IfOk result (λ fits. Fits fits (reverse stack.new.items) (after_connection_action ConnectionAction.PosedgeEvent (reverse stack.old.items))) }
 {
     let Some(clock) = take_name(stack) else {
         return Ok(false);
@@ -255,7 +255,7 @@ pub fn make_posedge_event(stack: &mut Vec<Value>) -> Result<bool, AllocError>
 
 /// `a or b`
 pub fn make_names_event(stack: &mut Vec<Value>) -> Result<bool, AllocError>
-    ensures { IfOk result (λ fits. Fits fits (reverse stack.new.items) (connect_act ConnectAction.NamesEvent (reverse stack.old.items))) }
+    ensures { IfOk result (λ fits. Fits fits (reverse stack.new.items) (after_connection_action ConnectionAction.NamesEvent (reverse stack.old.items))) }
 {
     let Some(names) = take_names(stack) else {
         return Ok(false);

@@ -1,8 +1,8 @@
 //! Actions of statements (IEEE 1364-2005, clause 9).
 
 ghost use Rattle.std.specs.Prelude.{IfOk, reverse};
-ghost use Rattle.v_actions.specs.Stmt.{stmt_act};
-ghost use Rattle.v_actions.specs.declared.actions.StmtAction.TheVariants as StmtAction;
+ghost use Rattle.v_actions.specs.StatementActions.{after_statement_action};
+ghost use Rattle.v_actions.specs.declared.actions.StatementAction.TheVariants as StatementAction;
 ghost use Rattle.v_stack.specs.Values.{Fits};
 
 use sqlite_items::{Boxed, Items};
@@ -19,7 +19,7 @@ use v_tree::{
 
 /// `name`
 pub fn make_target_name(stack: &mut Vec<Value>) -> Result<bool, AllocError>
-    ensures { IfOk result (λ fits. Fits fits (reverse stack.new.items) (stmt_act StmtAction.TargetName (reverse stack.old.items))) }
+    ensures { IfOk result (λ fits. Fits fits (reverse stack.new.items) (after_statement_action StatementAction.TargetName (reverse stack.old.items))) }
 {
     let Some(name) = take_name(stack) else {
         return Ok(false);
@@ -30,7 +30,7 @@ pub fn make_target_name(stack: &mut Vec<Value>) -> Result<bool, AllocError>
 
 /// `name [ selection ]`
 pub fn make_target_select(stack: &mut Vec<Value>) -> Result<bool, AllocError>
-    ensures { IfOk result (λ fits. Fits fits (reverse stack.new.items) (stmt_act StmtAction.TargetSelect (reverse stack.old.items))) }
+    ensures { IfOk result (λ fits. Fits fits (reverse stack.new.items) (after_statement_action StatementAction.TargetSelect (reverse stack.old.items))) }
 {
     let selection = take_selection(stack);
     let name = take_name(stack);
@@ -46,7 +46,7 @@ pub fn make_target_select(stack: &mut Vec<Value>) -> Result<bool, AllocError>
 
 /// `{ a, b }`
 pub fn make_target_concatenation(stack: &mut Vec<Value>) -> Result<bool, AllocError>
-    ensures { IfOk result (λ fits. Fits fits (reverse stack.new.items) (stmt_act StmtAction.TargetConcatenation (reverse stack.old.items))) }
+    ensures { IfOk result (λ fits. Fits fits (reverse stack.new.items) (after_statement_action StatementAction.TargetConcatenation (reverse stack.old.items))) }
 {
     let parts = take_targets(stack);
     let place = take_place(stack);
@@ -62,7 +62,7 @@ pub fn make_target_concatenation(stack: &mut Vec<Value>) -> Result<bool, AllocEr
 
 /// No targets yet.
 pub fn make_no_targets(alloc: Global, stack: &mut Vec<Value>) -> Result<bool, AllocError>
-    ensures { IfOk result (λ fits. Fits fits (reverse stack.new.items) (stmt_act StmtAction.NoTargets (reverse stack.old.items))) }
+    ensures { IfOk result (λ fits. Fits fits (reverse stack.new.items) (after_statement_action StatementAction.NoTargets (reverse stack.old.items))) }
 {
     put(stack, Value::Stmt(StmtValue::Targets(Items::new(alloc))))?;
     Ok(true)
@@ -70,7 +70,7 @@ pub fn make_no_targets(alloc: Global, stack: &mut Vec<Value>) -> Result<bool, Al
 
 /// One more of the targets.
 pub fn make_add_target(stack: &mut Vec<Value>) -> Result<bool, AllocError>
-    ensures { IfOk result (λ fits. Fits fits (reverse stack.new.items) (stmt_act StmtAction.AddTarget (reverse stack.old.items))) }
+    ensures { IfOk result (λ fits. Fits fits (reverse stack.new.items) (after_statement_action StatementAction.AddTarget (reverse stack.old.items))) }
 {
     let target = take_target(stack);
     let targets = take_targets(stack);
@@ -84,7 +84,7 @@ pub fn make_add_target(stack: &mut Vec<Value>) -> Result<bool, AllocError>
 
 /// `=`
 pub fn make_blocking(stack: &mut Vec<Value>) -> Result<bool, AllocError>
-    ensures { IfOk result (λ fits. Fits fits (reverse stack.new.items) (stmt_act StmtAction.Blocking (reverse stack.old.items))) }
+    ensures { IfOk result (λ fits. Fits fits (reverse stack.new.items) (after_statement_action StatementAction.Blocking (reverse stack.old.items))) }
 {
     put(
         stack,
@@ -95,7 +95,7 @@ pub fn make_blocking(stack: &mut Vec<Value>) -> Result<bool, AllocError>
 
 /// `<=`
 pub fn make_nonblocking(stack: &mut Vec<Value>) -> Result<bool, AllocError>
-    ensures { IfOk result (λ fits. Fits fits (reverse stack.new.items) (stmt_act StmtAction.Nonblocking (reverse stack.old.items))) }
+    ensures { IfOk result (λ fits. Fits fits (reverse stack.new.items) (after_statement_action StatementAction.Nonblocking (reverse stack.old.items))) }
 {
     put(
         stack,
@@ -106,7 +106,7 @@ pub fn make_nonblocking(stack: &mut Vec<Value>) -> Result<bool, AllocError>
 
 /// `target = value ;`
 pub fn make_assignment(stack: &mut Vec<Value>) -> Result<bool, AllocError>
-    ensures { IfOk result (λ fits. Fits fits (reverse stack.new.items) (stmt_act StmtAction.Assignment (reverse stack.old.items))) }
+    ensures { IfOk result (λ fits. Fits fits (reverse stack.new.items) (after_statement_action StatementAction.Assignment (reverse stack.old.items))) }
 {
     let value = take_expr(stack);
     let kind = take_assignment_kind(stack);
@@ -127,7 +127,7 @@ pub fn make_assignment(stack: &mut Vec<Value>) -> Result<bool, AllocError>
 
 /// `;`
 pub fn make_empty(stack: &mut Vec<Value>) -> Result<bool, AllocError>
-    ensures { IfOk result (λ fits. Fits fits (reverse stack.new.items) (stmt_act StmtAction.Empty (reverse stack.old.items))) }
+    ensures { IfOk result (λ fits. Fits fits (reverse stack.new.items) (after_statement_action StatementAction.Empty (reverse stack.old.items))) }
 {
     let Some(place) = take_place(stack) else {
         return Ok(false);
@@ -138,7 +138,7 @@ pub fn make_empty(stack: &mut Vec<Value>) -> Result<bool, AllocError>
 
 /// `: name`
 pub fn make_some_label(stack: &mut Vec<Value>) -> Result<bool, AllocError>
-    ensures { IfOk result (λ fits. Fits fits (reverse stack.new.items) (stmt_act StmtAction.SomeLabel (reverse stack.old.items))) }
+    ensures { IfOk result (λ fits. Fits fits (reverse stack.new.items) (after_statement_action StatementAction.SomeLabel (reverse stack.old.items))) }
 {
     let Some(name) = take_name(stack) else {
         return Ok(false);
@@ -149,7 +149,7 @@ pub fn make_some_label(stack: &mut Vec<Value>) -> Result<bool, AllocError>
 
 /// No label.
 pub fn make_no_label(stack: &mut Vec<Value>) -> Result<bool, AllocError>
-    ensures { IfOk result (λ fits. Fits fits (reverse stack.new.items) (stmt_act StmtAction.NoLabel (reverse stack.old.items))) }
+    ensures { IfOk result (λ fits. Fits fits (reverse stack.new.items) (after_statement_action StatementAction.NoLabel (reverse stack.old.items))) }
 {
     put(stack, Value::Stmt(StmtValue::Label(None)))?;
     Ok(true)
@@ -157,7 +157,7 @@ pub fn make_no_label(stack: &mut Vec<Value>) -> Result<bool, AllocError>
 
 /// `begin label body end`
 pub fn make_block(stack: &mut Vec<Value>) -> Result<bool, AllocError>
-    ensures { IfOk result (λ fits. Fits fits (reverse stack.new.items) (stmt_act StmtAction.Block (reverse stack.old.items))) }
+    ensures { IfOk result (λ fits. Fits fits (reverse stack.new.items) (after_statement_action StatementAction.Block (reverse stack.old.items))) }
 {
     let body = take_stmts(stack);
     let label = take_label(stack);
@@ -174,7 +174,7 @@ pub fn make_block(stack: &mut Vec<Value>) -> Result<bool, AllocError>
 
 /// No statements yet.
 pub fn make_no_stmts(alloc: Global, stack: &mut Vec<Value>) -> Result<bool, AllocError>
-    ensures { IfOk result (λ fits. Fits fits (reverse stack.new.items) (stmt_act StmtAction.NoStmts (reverse stack.old.items))) }
+    ensures { IfOk result (λ fits. Fits fits (reverse stack.new.items) (after_statement_action StatementAction.NoStmts (reverse stack.old.items))) }
 {
     put(stack, Value::Stmt(StmtValue::Stmts(Items::new(alloc))))?;
     Ok(true)
@@ -182,7 +182,7 @@ pub fn make_no_stmts(alloc: Global, stack: &mut Vec<Value>) -> Result<bool, Allo
 
 /// One more of the statements.
 pub fn make_add_stmt(stack: &mut Vec<Value>) -> Result<bool, AllocError>
-    ensures { IfOk result (λ fits. Fits fits (reverse stack.new.items) (stmt_act StmtAction.AddStmt (reverse stack.old.items))) }
+    ensures { IfOk result (λ fits. Fits fits (reverse stack.new.items) (after_statement_action StatementAction.AddStmt (reverse stack.old.items))) }
 {
     let stmt = take_stmt(stack);
     let stmts = take_stmts(stack);
@@ -196,7 +196,7 @@ pub fn make_add_stmt(stack: &mut Vec<Value>) -> Result<bool, AllocError>
 
 /// `if ( condition ) body`
 pub fn make_if_alone(alloc: Global, stack: &mut Vec<Value>) -> Result<bool, AllocError>
-    ensures { IfOk result (λ fits. Fits fits (reverse stack.new.items) (stmt_act StmtAction.IfAlone (reverse stack.old.items))) }
+    ensures { IfOk result (λ fits. Fits fits (reverse stack.new.items) (after_statement_action StatementAction.IfAlone (reverse stack.old.items))) }
 {
     let body = take_stmt(stack);
     let condition = take_expr(stack);
@@ -214,7 +214,7 @@ pub fn make_if_alone(alloc: Global, stack: &mut Vec<Value>) -> Result<bool, Allo
 
 /// `if ( condition ) body else other`
 pub fn make_if_else(alloc: Global, stack: &mut Vec<Value>) -> Result<bool, AllocError>
-    ensures { IfOk result (λ fits. Fits fits (reverse stack.new.items) (stmt_act StmtAction.IfElse (reverse stack.old.items))) }
+    ensures { IfOk result (λ fits. Fits fits (reverse stack.new.items) (after_statement_action StatementAction.IfElse (reverse stack.old.items))) }
 {
     let other = take_stmt(stack);
     let body = take_stmt(stack);
@@ -234,7 +234,7 @@ pub fn make_if_else(alloc: Global, stack: &mut Vec<Value>) -> Result<bool, Alloc
 
 /// `case ( value ) items endcase`
 pub fn make_case(stack: &mut Vec<Value>) -> Result<bool, AllocError>
-    ensures { IfOk result (λ fits. Fits fits (reverse stack.new.items) (stmt_act StmtAction.Case (reverse stack.old.items))) }
+    ensures { IfOk result (λ fits. Fits fits (reverse stack.new.items) (after_statement_action StatementAction.Case (reverse stack.old.items))) }
 {
     let items = take_case_items(stack);
     let value = take_expr(stack);
@@ -251,7 +251,7 @@ pub fn make_case(stack: &mut Vec<Value>) -> Result<bool, AllocError>
 
 /// `casez ( value ) items endcase`
 pub fn make_casez(stack: &mut Vec<Value>) -> Result<bool, AllocError>
-    ensures { IfOk result (λ fits. Fits fits (reverse stack.new.items) (stmt_act StmtAction.Casez (reverse stack.old.items))) }
+    ensures { IfOk result (λ fits. Fits fits (reverse stack.new.items) (after_statement_action StatementAction.Casez (reverse stack.old.items))) }
 {
     let items = take_case_items(stack);
     let value = take_expr(stack);
@@ -268,7 +268,7 @@ pub fn make_casez(stack: &mut Vec<Value>) -> Result<bool, AllocError>
 
 /// `a, b : body`
 pub fn make_values_item(alloc: Global, stack: &mut Vec<Value>) -> Result<bool, AllocError>
-    ensures { IfOk result (λ fits. Fits fits (reverse stack.new.items) (stmt_act StmtAction.ValuesItem (reverse stack.old.items))) }
+    ensures { IfOk result (λ fits. Fits fits (reverse stack.new.items) (after_statement_action StatementAction.ValuesItem (reverse stack.old.items))) }
 {
     let body = take_stmt(stack);
     let values = take_exprs(stack);
@@ -285,7 +285,7 @@ pub fn make_values_item(alloc: Global, stack: &mut Vec<Value>) -> Result<bool, A
 
 /// `default : body`
 pub fn make_default_item(alloc: Global, stack: &mut Vec<Value>) -> Result<bool, AllocError>
-    ensures { IfOk result (λ fits. Fits fits (reverse stack.new.items) (stmt_act StmtAction.DefaultItem (reverse stack.old.items))) }
+    ensures { IfOk result (λ fits. Fits fits (reverse stack.new.items) (after_statement_action StatementAction.DefaultItem (reverse stack.old.items))) }
 {
     let body = take_stmt(stack);
     let place = take_place(stack);
@@ -302,7 +302,7 @@ pub fn make_default_item(alloc: Global, stack: &mut Vec<Value>) -> Result<bool, 
 
 /// No case items yet.
 pub fn make_no_case_items(alloc: Global, stack: &mut Vec<Value>) -> Result<bool, AllocError>
-    ensures { IfOk result (λ fits. Fits fits (reverse stack.new.items) (stmt_act StmtAction.NoCaseItems (reverse stack.old.items))) }
+    ensures { IfOk result (λ fits. Fits fits (reverse stack.new.items) (after_statement_action StatementAction.NoCaseItems (reverse stack.old.items))) }
 {
     put(stack, Value::Stmt(StmtValue::CaseItems(Items::new(alloc))))?;
     Ok(true)
@@ -310,7 +310,7 @@ pub fn make_no_case_items(alloc: Global, stack: &mut Vec<Value>) -> Result<bool,
 
 /// One more of the case items.
 pub fn make_add_case_item(stack: &mut Vec<Value>) -> Result<bool, AllocError>
-    ensures { IfOk result (λ fits. Fits fits (reverse stack.new.items) (stmt_act StmtAction.AddCaseItem (reverse stack.old.items))) }
+    ensures { IfOk result (λ fits. Fits fits (reverse stack.new.items) (after_statement_action StatementAction.AddCaseItem (reverse stack.old.items))) }
 {
     let item = take_case_item(stack);
     let items = take_case_items(stack);
@@ -324,7 +324,7 @@ pub fn make_add_case_item(stack: &mut Vec<Value>) -> Result<bool, AllocError>
 
 /// `for ( start = first ; condition ; step = next ) body`
 pub fn make_for(alloc: Global, stack: &mut Vec<Value>) -> Result<bool, AllocError>
-    ensures { IfOk result (λ fits. Fits fits (reverse stack.new.items) (stmt_act StmtAction.For (reverse stack.old.items))) }
+    ensures { IfOk result (λ fits. Fits fits (reverse stack.new.items) (after_statement_action StatementAction.For (reverse stack.old.items))) }
 {
     let body = take_stmt(stack);
     let next = take_expr(stack);
