@@ -1,8 +1,7 @@
 -- The numbers of copies are those of the terms that were copied.
-use Rattle.std.proofs.Common.{◌≡◌, ℕ, zero, suc, ◌+◌, ◌^◌, ◌<◌, ◌≤◌, List, [], ◌∷◌, Some, length, map, get_or, refl, sym, ap, ◌∙◌, subst, arith}
-use Rattle.std.specs.Prelude.{All, slice_index, slice_get, option_map}
-use Rattle.std.proofs.lemmas.List.Elements.{All-head, All-tail}
-use Rattle.std.proofs.lemmas.Option.{slice_get-map, get_or_from_slice_get}
+use Rattle.std.proofs.Common.{◌≡◌, ℕ, zero, suc, ◌+◌, ◌^◌, ◌<◌, ◌≤◌, List, [], ◌∷◌, length, map, refl, sym, ap, ◌∙◌, subst, arith}
+use Rattle.std.specs.Prelude.{All, slice_index}
+use Rattle.std.proofs.lemmas.List.Elements.{All-nil, All-cons, All-head, All-tail}
 use Rattle.std.proofs.lemmas.Simd.{map-map}
 use Rattle.bits_core.specs.Word.{Word, word}
 use Rattle.word_eqs.specs.declared.term.TermId.{TermId}
@@ -13,6 +12,7 @@ use Rattle.word_eqs.specs.Meaning.{Values, Respects, IsWordOf, meaning, word_at}
 use Rattle.word_eqs.proofs.Evals.{one_meaning, meaning_values}
 use Rattle.word_eqs.proofs.Graphs.{longer, width_kept}
 use Rattle.joint_ir.specs.Views.{worded, term_numbers}
+use Rattle.joint_ir.specs.WellFormed.{AreTerms}
 use Rattle.sized_terms.specs.declared.SizedTerm.{SizedTerm}
 use Rattle.sized_terms.specs.Sized.{Has}
 use Rattle.unrolled.specs.declared.Unrolled.{Unrolled}
@@ -53,18 +53,23 @@ module _ (g from : Graph) (subs ids : List ℕ) (v : Values) (is : IsGraph from)
 words_are : (v : Values) (ids : List TermId) → words v ids ≡ numbers v (places ids)
 words_are v ids = sym (map-map (λ t. (v.term t).value) (λ (t : TermId). t.0) ids)
 
--- a term that was picked is the copy of the one that was wanted
-picked_at : (ids : List ℕ) (wanted found : List TermId) (k : ℕ) (t w : TermId) → IsPicked ids wanted (places found) → slice_get found k ≡ Some t → slice_get wanted k ≡ Some w → t.0 ≡ slice_index ids w.0
-picked_at ids wanted found k t w p at at' =
-    let a : slice_get (places found) k ≡ Some t.0 = slice_get-map (λ (x : TermId). x.0) found k ∙ ap (option_map (λ (x : TermId). x.0)) at in
-    let b : slice_get (map (λ (x : TermId). slice_index ids x.0) wanted) k ≡ Some (slice_index ids w.0) = slice_get-map (λ (x : TermId). slice_index ids x.0) wanted k ∙ ap (option_map (λ (x : TermId). slice_index ids x.0)) at' in
-    let c : Some t.0 ≡ Some (slice_index ids w.0) = sym a ∙ ap (λ l. slice_get l k) p ∙ b in
-    cc
-
-wanted_at : (n : ℕ) (wanted : List TermId) (k : ℕ) (w : TermId) → All (λ (t : TermId). t.0 < n) wanted → slice_get wanted k ≡ Some w → w.0 < n
-wanted_at n [] k w all at = cc
-wanted_at n (x ∷ wanted) zero w all at = subst (λ (y : TermId). y.0 < n) (let d : Some x ≡ Some w = at in cc) (All-head (λ (t : TermId). t.0 < n) x wanted all)
-wanted_at n (x ∷ wanted) (suc k) w all at = wanted_at n wanted k w (All-tail (λ (t : TermId). t.0 < n) x wanted all) at
+-- the terms that were picked are as many as the wanted ones, and have their widths
+picked_terms : (g from : Graph) (ids : List ℕ) (wanted found : List TermId) → AreCopies g from ids (length from.terms) → All (λ (t : TermId). t.0 < length from.terms) wanted → IsPicked ids wanted (places found) →
+    AreTerms g found (map (λ (t : TermId). width_in from t.0) wanted)
+picked_terms g from ids [] [] c all p = record { there = All-nil (λ (t : TermId). t.0 < length g.terms); sized = refl }
+picked_terms g from ids [] (t ∷ found) c all p = cc
+picked_terms g from ids (w ∷ wanted) [] c all p = cc
+picked_terms g from ids (w ∷ wanted) (t ∷ found) c all p =
+    let e : t.0 ≡ slice_index ids w.0 = cc in
+    let lt : w.0 < length from.terms = All-head (λ (t : TermId). t.0 < length from.terms) w wanted all in
+    let d : places found ≡ map (λ (x : TermId). slice_index ids x.0) wanted = cc in
+    let more = picked_terms g from ids wanted found c (All-tail (λ (t : TermId). t.0 < length from.terms) w wanted all) d in
+    let there : t.0 < length g.terms = subst (λ i. i < length g.terms) (sym e) (c.there w.0 lt) in
+    let width : width_in g t.0 ≡ width_in from w.0 = ap (width_in g) e ∙ c.widths w.0 lt in
+    record {
+      there = All-cons (λ (t : TermId). t.0 < length g.terms) t found there more.there;
+      sized = ap (λ n. n ∷ map (λ (x : TermId). width_in g x.0) found) width ∙ ap (λ l. width_in from w.0 ∷ l) more.sized;
+    }
 
 pub copies_are : (old new : Unrolled) (from : Graph) (wanted subs all found : List TermId) → IsGraph from → AreSubs old.terms from (places subs) → All (λ (t : TermId). t.0 < length from.terms) wanted → Extends old.terms new.terms → IsGraph new.terms → new.list ≡ old.list →
     Copies old.terms new.terms from (places subs) (places all) → AreCopies new.terms from (places all) (length from.terms) → term_gates new.terms ≤ term_gates old.terms + term_gates from → IsPicked (places all) wanted (places found) → AreCopied old new from wanted subs found
@@ -82,8 +87,5 @@ copies_are old new from wanted subs all found is s there x proper l c ty cost p 
   value = λ v r.
       words_are v found ∙ ap (numbers v) p ∙ copied_numbers old.terms from (places subs) (places all) v is s (c.value v r) wanted there
       ∙ ap (λ ns. term_numbers from ns wanted) (sym (words_are v subs));
-  has = λ k t w at at'.
-      let e = picked_at (places all) wanted found k t w p at at' in
-      let lt = wanted_at (length from.terms) wanted k w there at' in
-      record { there = subst (λ i. i < length new.terms.terms) (sym e) (ty.there w.0 lt); width = ap (width_in new.terms) e ∙ ty.widths w.0 lt };
+  terms = picked_terms new.terms from (places all) wanted found ty there p;
 }
