@@ -44,7 +44,7 @@ pub broken_follows : (p : PropId) (guards : Way → ℕ) (holds : Way → JointS
 broken_follows p guards holds out = record { outcome = Broken p; told = seen (Broke p); broken = refl; widths = refl; runs = λ rest. refl }
 
 -- an expression, and what is done with its value
-ask_follows : (ty : IntType) (a : Answer) (t1 t2 : Trail) (n : ℕ) (K : ℤ → List ℕ → Effect) (guards : Way → ℕ) (holds : Way → JointState → Type 0) (out : Way → Onward) → Gives ty a t1 n → Follows (K (number ty.signed ty.bits n)) t2 guards holds out →
+pub ask_follows : (ty : IntType) (a : Answer) (t1 t2 : Trail) (n : ℕ) (K : ℤ → List ℕ → Effect) (guards : Way → ℕ) (holds : Way → JointState → Type 0) (out : Way → Onward) → Gives ty a t1 n → Follows (K (number ty.signed ty.bits n)) t2 guards holds out →
     Follows (λ c. with_value a c (λ m. K m c)) (trail_then t1 t2) guards holds out
 ask_follows ty (Value m) t1 t2 n K guards holds out (e, d) h =
     subst (λ t. Follows (K m) t guards holds out) (sym (ap (λ t. trail_then t t2) e ∙ then_nothing t2)) (subst (λ (z : ℤ). Follows (K z) t2 guards holds out) d h)

@@ -181,13 +181,13 @@ rows_same v rows i j lt =
     ap (λ l. words_put (map (words v) rows) i j (slice_index_or l j 0)) (row_words v rows i lt)
     ∙ ap (slice_set (map (words v) rows) i) (set-get_or (words_at (map (words v) rows) i) j 0) ∙ set-get_or (map (words v) rows) i []
 
-put_same : (v : Values) (s : State) (slot : Slot) (j : ℕ) → j < length (terms_of s.objects slot) → image_put (look v s) slot j (slice_index_or (words v (terms_of s.objects slot)) j 0) ≡ look v s
+pub put_same : (v : Values) (s : State) (slot : Slot) (j : ℕ) → j < length (terms_of s.objects slot) → image_put (look v s) slot j (slice_index_or (words v (terms_of s.objects slot)) j 0) ≡ look v s
 put_same v s (Global i) j lt = ap (λ k. image_of (look v s) k (look v s).locals (look v s).members) (rows_same v s.objects.globals.items i j (some_row s.objects.globals.items i j lt))
 put_same v s (Local i) j lt = ap (λ k. image_of (look v s) (look v s).globals k (look v s).members) (rows_same v s.objects.locals.items i j (some_row s.objects.locals.items i j lt))
 put_same v s (Member i) j lt = ap (image_of (look v s) (look v s).globals (look v s).locals) (rows_same v s.objects.members.items i j (some_row s.objects.members.items i j lt))
 put_same v s BoundValue j lt = refl
 
-put_settled : (p : Pair) (x : Image) (slot : Slot) (j n : ℕ) → IsSettled p x → IsSettled p (image_put x slot j n)
+pub put_settled : (p : Pair) (x : Image) (slot : Slot) (j n : ℕ) → IsSettled p x → IsSettled p (image_put x slot j n)
 put_settled p x (Global i) j n h = h
 put_settled p x (Local i) j n h = h
 put_settled p x (Member i) j n h = h

@@ -55,6 +55,14 @@ pub record Asks (fixed : Image → Type 0) (old new : Unrolled) (at : State) (t 
   pub idle : (v : Values) → Respects v new.terms → bit_at v g ≡ 0 → fixed (look v at) → trail v more ≡ Through []
   pub live : (v : Values) → Respects v new.terms → bit_at v g ≡ 1 → fixed (look v at) → (s : JointState) → before (look v at) s → Gives t (answer s) (trail v more) (bits v x)
 
+-- the same of an answer that hangs on terms made before
+pub record AsksIn (fixed : Image → Type 0) (old new : Unrolled) (at : State) (t : IntType) (answer : Values → JointState → Answer) (g : Guard) (x : SizedTerm) (before : Image → JointState → Type 0) : Type 0 where
+  pub grown : (v : Values) → Respects v new.terms → Respects v old.terms
+  pub more : List Step
+  pub list : new.list ≡ old.list ++ more
+  pub idle : (v : Values) → Respects v new.terms → bit_at v g ≡ 0 → fixed (look v at) → trail v more ≡ Through []
+  pub live : (v : Values) → Respects v new.terms → bit_at v g ≡ 1 → fixed (look v at) → (s : JointState) → before (look v at) s → Gives t (answer v s) (trail v more) (bits v x)
+
 -- a term of one bit that is 1 where a path is live
 pub record IsTerm (old new : Unrolled) (g : Guard) (t : SizedTerm) : Type 0 where
   pub adds : Adds old new

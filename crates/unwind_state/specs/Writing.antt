@@ -1,9 +1,10 @@
 -- Writes of objects: what becomes of the terms, of their words, and of the numbers that these stand for.
-use Rattle.std.specs.Prelude.{◌≡◌, ℕ, ◌<◌, List, [], ◌∷◌, length, slice_get, slice_set, slice_index_or, Some, IsSome, Contains}
+use Rattle.std.specs.Prelude.{◌≡◌, ℕ, ◌<◌, List, [], ◌∷◌, length, slice_get, slice_set, slice_index_or, Option, Some, None, IsSome, Contains}
 use Rattle.bits_core.specs.Word.{number, at_zero}
 use Rattle.word_eqs.specs.declared.term.TermId.{TermId}
 use Rattle.word_eqs.specs.Graph.{Graph}
 use Rattle.word_eqs.specs.Meaning.{Values, Respects}
+use Rattle.joint_ir.specs.declared.ctype.IntType.{IntType}
 use Rattle.joint_ir.specs.declared.expr.Slot.{Slot}
 use Rattle.joint_ir.specs.declared.expr.Slot.TheVariants.{Global, Local, Member, BoundValue}
 use Rattle.joint_ir.specs.declared.pair.Pair.{Pair}
@@ -11,6 +12,7 @@ use Rattle.joint_ir.specs.declared.program.CProgram.{CProgram}
 use Rattle.joint_ir.specs.declared.program.Member.{Member as AMember}
 use Rattle.joint_ir.specs.States.{JointState, element_count, put}
 use Rattle.joint_ir.specs.Steps.{slot_type, with_store}
+use Rattle.joint_ir.specs.Types.{IsType}
 use Rattle.joint_ir.specs.Views.{members_of}
 use Rattle.joint_ir.specs.Weights.{slot_length}
 use Rattle.sized_terms.specs.declared.SizedTerm.{SizedTerm}
@@ -55,6 +57,15 @@ pub record HasObjects (p : CProgram) (g : Graph) (o : Objects) : Type 0 where
   pub count : (slot : Slot) → IsThere p slot → length (terms_of o slot) ≡ element_count (slot_length p slot)
   pub has : (slot : Slot) → IsThere p slot → (k : ℕ) (t : TermId) → slice_get (terms_of o slot) k ≡ Some t → Has g (sized t (slot_type p slot).bits)
 
+-- each object that there is has a type
+abbrev pub HasTypes : CProgram → Type 0
+HasTypes p = (slot : Slot) → IsThere p slot → IsType (slot_type p slot)
+
+-- the term of what an activation returns has its type's width, if its function has a result
+abbrev pub HasResult : Option IntType → Graph → SizedTerm → Type 0
+HasResult None g x = Unit {0}
+HasResult (Some t) g x = Has g x × (x.width ≡ t.bits)
+
 -- words of rows with one element of one row set
 abbrev pub words_put : List (List ℕ) → (row element : ℕ) → ℕ → List (List ℕ)
 words_put xs i j n = slice_set xs i (slice_set (words_at xs i) j n)
@@ -66,9 +77,19 @@ image_put x (Local i) j n = record { globals = x.globals; locals = words_put x.l
 image_put x (Member i) j n = record { globals = x.globals; locals = x.locals; members = words_put x.members i j n; registers = x.registers; inputs = x.inputs; unknown = x.unknown; wires = x.wires; edges = x.edges; result = x.result }
 image_put x BoundValue j n = x
 
+-- an image with one element of one object set where a bit is 1
+abbrev pub image_put_if : (bit : ℕ) → Image → Slot → (element : ℕ) → ℕ → Image
+image_put_if b x slot j n = at_zero b x (image_put x slot j n)
+
 -- a state with other objects
 abbrev pub with_objects : State → Objects → State
 with_objects s o = record { objects = o; registers = s.registers; inputs = s.inputs; unknown = s.unknown; wires = s.wires; edges = s.edges; result = s.result }
+
+-- Where a bit is 1 the element of an object at an index, which is a term, took a value; past the end there is none.
+pub record IsPutAt (n0 n1 : Unrolled) (o0 o1 : Objects) (slot : Slot) (index value : SizedTerm) (where_bit : Values → ℕ) : Type 0 where
+  pub adds : Adds n0 n1
+  pub objects : (p : CProgram) → value.width ≡ (slot_type p slot).bits → HasObjects p n0.terms o0 → HasObjects p n1.terms o1
+  pub image : (s : State) (v : Values) → Respects v n1.terms → look v (with_objects s o1) ≡ image_put_if (where_bit v) (look v (with_objects s o0)) slot (bits v index) (bits v value)
 
 -- an object's row is that of a declared object
 abbrev pub IsDeclared : List ℕ → Slot → Type 0
