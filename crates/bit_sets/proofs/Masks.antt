@@ -7,7 +7,7 @@ use Rattle.std.proofs.lemmas.List.Folds.{list_any_more, list_any-append}
 use Rattle.std.proofs.lemmas.Bool.{cases_Bool, eqb-false}
 use Rattle.std.proofs.lemmas.Bool.Decides.{eqb_tells}
 use Rattle.bit_sets.specs.declared.Bits.{Bits}
-use Rattle.bit_sets.specs.Sets.{is_set, has, is_in, names, IsEmpty, Fills, Clears, IsCommon, IsWithout}
+use Rattle.bit_sets.specs.Sets.{is_set, has, is_in, names, IsEmpty, Fills, Clears, TakesOut, IsCommon, IsWithout}
 
 bits_or : (x y : ℕ) → x < 2 → y < 2 → eqb (max x y) 1 ≡ (eqb x 1 || eqb y 1)
 bits_or zero zero a b = refl
@@ -109,7 +109,7 @@ shared_more table list both i d b m lt is at S g k =
     list_any-append (has g k) both (c ∷ []) ∙ ap (λ x. is_in both g k || x) (or_false (has g k c) ∙ one) ∙ ap (λ x. x || (has g k b && t)) (S g k)
     ∙ sym (ap (λ x. x && t) more ∙ or_and (is_in (take i list) g k) (has g k b) t)
 
-set_lacking : (m n k : ℕ) → is_set (bit_xor m (bit_and m n)) k ≡ (is_set m k && not (is_set n k))
+pub set_lacking : (m n k : ℕ) → is_set (bit_xor m (bit_and m n)) k ≡ (is_set m k && not (is_set n k))
 set_lacking m n k =
     ap (λ x. eqb x 1) (bit_at_xor m (bit_and m n) k ∙ ap (λ x. (bit_at m k + x) % 2) (bit_at_and m n k))
     ∙ bits_lacking (bit_at m k) (bit_at n k) (bit_at-lt m k) (bit_at-lt n k)
@@ -143,3 +143,42 @@ and_comm true true = refl
 and_comm true false = refl
 and_comm false true = refl
 and_comm false false = refl
+
+two_out : (x a b : Bool) → ((x && not a) && not b) ≡ (x && not (a || b))
+two_out true true b = refl
+two_out true false b = refl
+two_out false a b = refl
+
+none_out : (x a : Bool) → (x && not a) ≡ (x && not (a || false))
+none_out x true = refl
+none_out x false = refl
+
+pub take_out_more : (list : List Bits) (i : ℕ) (d : Bits) (old new : List ℕ) (b : Bits) (m : ℕ) → i < length list → b ≡ get_or list i d → b.signal < length new → m ≡ get_or new b.signal 0 → TakesOut (take i list) old new → TakesOut (take (i + 1) list) old (set new b.signal (bit_xor m (bit_and m b.mask)))
+take_out_more list i d old new b m lt is within at F g k =
+    let s = b.signal in
+    let v = bit_xor m (bit_and m b.mask) in
+    let o = is_set (get_or old g 0) k in
+    let t = is_in (take i list) g k in
+    let more : is_in (take (i + 1) list) g k ≡ (t || has g k b) = list_any_more (has g k) list i d lt ∙ ap (λ x. t || has g k x) (sym is) in
+    elim (eqb_tells s g) [
+      | inl e ↦
+          let new_is : get_or (set new s v) g 0 ≡ v = ap (λ j. get_or (set new s v) j 0) (sym e.1) ∙ get_or-set_same new s v 0 within in
+          let was : is_set m k ≡ (o && not t) = ap (λ x. is_set x k) (at ∙ ap (λ j. get_or new j 0) e.1) ∙ F g k in
+          ap (λ x. is_set x k) new_is ∙ set_lacking m b.mask k
+          ∙ ap (λ x. x && not (is_set b.mask k)) was
+          ∙ two_out o t (is_set b.mask k)
+          ∙ ap (λ x. o && not (t || x)) (sym (here_is s g k b.mask e.0))
+          ∙ ap (λ x. o && not x) (sym more)
+      | inr e ↦
+          ap (λ x. is_set x k) (get_or-set_other new s g v 0 (λ q. e.1 (sym q))) ∙ F g k
+          ∙ none_out o t
+          ∙ ap (λ x. o && not (t || x)) (sym (elsewhere s g k b.mask e.0))
+          ∙ ap (λ x. o && not x) (sym more)
+    ]
+
+none_taken : (x : Bool) → x ≡ (x && not false)
+none_taken true = refl
+none_taken false = refl
+
+pub take_out_none : (old : List ℕ) → TakesOut [] old old
+take_out_none old g k = none_taken (is_set (get_or old g 0) k)

@@ -38,6 +38,10 @@ pub record Clears (set : List Bits) (old new : List ℕ) : Type 0 where
   pub named : (g : ℕ) → names set g ≡ true → slice_index new g ≡ 0
   pub others : (g : ℕ) → names set g ≡ false → slice_index new g ≡ slice_index old g
 
+-- the bits of a set, and no others, were taken out of a table
+abbrev pub TakesOut : List Bits → List ℕ → List ℕ → Type 0
+TakesOut set old new = (g k : ℕ) → is_set (slice_index new g) k ≡ (is_set (slice_index old g) k && not (is_in set g k))
+
 -- what a set shares with a table
 abbrev pub IsCommon : List ℕ → List Bits → List Bits → Type 0
 IsCommon table set both = (g k : ℕ) → is_in both g k ≡ (is_in set g k && is_set (slice_index table g) k)

@@ -6,7 +6,7 @@
 #![tactic(auto)]
 
 ghost use Rattle.std.specs.Prelude.{◌≡◌, ◌&&◌, ℕ, not, length, vec_len, IfOk, OnOk};
-ghost use Rattle.bit_sets.specs.Sets.{is_in, IsWithin, IsEmpty, Fills, Clears, IsCommon, IsWithout};
+ghost use Rattle.bit_sets.specs.Sets.{is_in, IsWithin, IsEmpty, Fills, Clears, TakesOut, IsCommon, IsWithout};
 
 use std::alloc::{AllocError, Global};
 
@@ -40,6 +40,18 @@ pub fn clear(table: &mut Vec<u64>, set: &[Bits])
     }
 }
 
+/// Takes the bits of a set out of a table, and no others.
+pub fn take_out(table: &mut Vec<u64>, set: &[Bits])
+    requires { IsWithin (vec_len table.old) set.now }
+    ensures len { vec_len table.new ≡ vec_len table.old }
+    ensures takes { TakesOut set.now table.old.items table.new.items }
+{
+    for bits in set {
+        let mask = table[bits.signal as usize];
+        table[bits.signal as usize] = mask ^ (mask & bits.mask);
+    }
+}
+
 /// What a set shares with a table.
 fn shared(alloc: Global, table: &[u64], set: &[Bits]) -> Result<Vec<Bits>, AllocError>
     requires { IsWithin (length table.now) set.now }
@@ -58,7 +70,7 @@ fn shared(alloc: Global, table: &[u64], set: &[Bits]) -> Result<Vec<Bits>, Alloc
 }
 
 /// What a set has and a table lacks.
-fn lacking(alloc: Global, table: &[u64], set: &[Bits]) -> Result<Vec<Bits>, AllocError>
+pub fn lacking(alloc: Global, table: &[u64], set: &[Bits]) -> Result<Vec<Bits>, AllocError>
     requires { IsWithin (length table.now) set.now }
     ensures within { IfOk result (λ s. IsWithin (length table.now) s.items) }
     ensures lacking { IfOk result (λ s. IsWithout table.now set.now s.items) }
