@@ -144,7 +144,7 @@ grows_items (x ∷ xs) k =
     grows_then k next (items_known xs next) (grows_item x k) (grows_items xs next)
 
 -- a declaration leaves the outer scopes as they were
-leave_declare : (env : List Scope) (n : List ℕ) (e : Entry) → leave (declare env n e) ≡ leave env
+pub leave_declare : (env : List Scope) (n : List ℕ) (e : Entry) → leave (declare env n e) ≡ leave env
 leave_declare [] n e = refl
 leave_declare (s ∷ env) n e = refl
 
@@ -189,7 +189,7 @@ mutual
   stmts_scopes statement.end_of-Statement k = refl
   stmts_scopes (statement.more_of-Statement x row) k = stmts_scopes row (known_after x k) ∙ same_scopes x k
 
-  item_leave : (x : BlockItem) (k : Known) → leave (known_after_item x k).scopes ≡ leave k.scopes
+  pub item_leave : (x : BlockItem) (k : Known) → leave (known_after_item x k).scopes ≡ leave k.scopes
   item_leave (block_item.Local l) k = declarators_leave (named l.type_name.integer) (is_some l.constant) l.declarators k
   item_leave (block_item.Statement s) k = ap leave (same_scopes s k)
 

@@ -81,7 +81,7 @@ module _ (c : well.Scope) (all : List Site) (props : AreProps all c.program) (en
   pub call_fits : (fns : List Signature) → Agree c.program fns → (p : Place) (f : ℕ) (s : Signature) (base : ℕ) (args : List Expression) → slice_get fns f ≡ Some s →
       signature_offences p (length args) (Some s) ≡ [] → AllBytes args → StandAt all base (args_sites env args) → FitsCall c (call_typed p f (args_typed env base s.params 0 args))
   call_fits fns agree p f s base args is none v st =
-      let a = agree f s is in
+      let a = agree f s is (may_call p s.callable (none_right (count_offences p (length s.params) (length args)) (body_offences p s.callable) none)) in
       let g : Agrees c.program s a.0 = a.2 in
       let few : length s.params ≡ length args = count_right p (length s.params) (length args) (none_left (count_offences p (length s.params) (length args)) (body_offences p s.callable) none) in (
         a.0,
@@ -89,7 +89,7 @@ module _ (c : well.Scope) (all : List Site) (props : AreProps all c.program) (en
         (
           args_count base s.params 0 args ∙ sym few ∙ sym g.count,
           subst (λ n. FitsArgs c n (args_typed env base s.params 0 args)) (omega arith) (args_fit a.0.first s.params g.params 0 base args (omega (arith, few)) v st),
-          g.body (may_call p s.callable (none_right (count_offences p (length s.params) (length args)) (body_offences p s.callable) none)),
+          g.body,
         ),
       )
 
@@ -101,9 +101,10 @@ module _ (c : well.Scope) (all : List Site) (props : AreProps all c.program) (en
   called_fits fns agree p NextFrame t base args has void none v st = absurd (cc)
   called_fits fns agree p (Declared f) t base args has void none v st =
       let s = has.0 in
-      let a = agree f s has.1 in
+      let known = subst (λ o. signature_offences p (length args) o ≡ []) has.1 none in
+      let a = agree f s has.1 (may_call p s.callable (none_right (count_offences p (length s.params) (length args)) (body_offences p s.callable) known)) in
       let g : Agrees c.program s a.0 = a.2 in
-      let call = call_fits fns agree p f s base args has.1 (subst (λ o. signature_offences p (length args) o ≡ []) has.1 none) v st in
+      let call = call_fits fns agree p f s base args has.1 known v st in
       let result = some_result p s (subst (λ o. result_offences p o ≡ []) has.1 void) in
       (subst (λ o. FitsCall c (call_typed p f (args_typed env base (params_in o) 0 args))) (sym has.1) call, (a.0, a.1, subst IsSome (sym g.result) result))
 

@@ -34,16 +34,16 @@ use Rattle.c_statements.specs.declared.walk.Around.{Around}
 use Rattle.c_statements.specs.Known.{Known}
 use Rattle.c_meaning.specs.Sound.{AreBytes, PathBytes, AreThere, AreProps}
 
--- a function of the program has the result and the parameters of a signature, and may be called where the signature says so
+-- a function of the program has the result and the parameters of a signature, and a body or a result
 pub record Agrees (p : CProgram) (s : Signature) (fn : Function) : Type 0 where
   pub result : fn.result ≡ s.result
   pub count : fn.params ≡ length s.params
   pub params : (i : ℕ) (t : IntType) → slice_get s.params i ≡ Some t → (t ≡ slot_type p (Local (fn.first + i))) × IsType t
-  pub body : IsTrue s.callable → IsSome fn.body ⊎ IsSome fn.result
+  pub body : IsSome fn.body ⊎ IsSome fn.result
 
--- each signature agrees with the function of its number
+-- each signature of a function that may be called agrees with the function of its number
 abbrev pub Agree : CProgram → List Signature → Type 0
-Agree p fns = (f : ℕ) (s : Signature) → slice_get fns f ≡ Some s → (fn : Function) × (slice_get p.functions f ≡ Some fn) × Agrees p s fn
+Agree p fns = (f : ℕ) (s : Signature) → slice_get fns f ≡ Some s → IsTrue s.callable → (fn : Function) × (slice_get p.functions f ≡ Some fn) × Agrees p s fn
 
 -- each character in expressions is a byte
 abbrev pub AllBytes : List Expression → Type 0
