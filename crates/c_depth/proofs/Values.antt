@@ -25,7 +25,8 @@ use Rattle.c_stack.specs.declared.values.PartValue.TheVariants as part_value
 use Rattle.c_stack.specs.declared.values.StatementValue.TheVariants as statement_value
 use Rattle.c_stack.specs.declared.values.SwitchValue.TheVariants as switch_value
 use Rattle.c_stack.specs.declared.values.FileValue.TheVariants as file_value
-use Rattle.node_places.proofs.Looks.{PlaceLook}
+use Rattle.node_places.proofs.Looks.{PlaceLook, first_in}
+use Rattle.node_depth.specs.declared.weave.Weave.{Weave}
 
 abbrev pub storage_first : Storage → Option Place
 storage_first storage.Unspecified = None

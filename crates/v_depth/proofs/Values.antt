@@ -34,7 +34,8 @@ use Rattle.v_stack.specs.declared.values.NamesValue.TheVariants as NamesValue
 use Rattle.v_stack.specs.declared.values.ConnectValue.TheVariants as ConnectValue
 use Rattle.v_stack.specs.declared.values.PartValue.TheVariants as PartValue
 use Rattle.v_stack.specs.declared.values.ModuleValue.TheVariants as ModuleValue
-use Rattle.node_places.proofs.Looks.{PlaceLook}
+use Rattle.node_places.proofs.Looks.{PlaceLook, first_in}
+use Rattle.node_depth.specs.declared.weave.Weave.{Weave}
 
 -- the place of the first of some trees, which is where a selection begins
 abbrev pub root_first : Trees → Option Place
