@@ -54,7 +54,7 @@ param_grows : (t : IntType) (constant : Bool) (n : Option Identifier) (k : Known
 param_grows t constant None k = λ i x h. h
 param_grows t constant (Some x) k = prefix_append k.locals (var_of t 0 constant x ∷ [])
 
-params_grow : (ps : List Parameter) (k : Known) → IsPrefix k.locals (params_known ps k).locals
+pub params_grow : (ps : List Parameter) (k : Known) → IsPrefix k.locals (params_known ps k).locals
 params_grow [] k = λ i x h. h
 params_grow (q ∷ ps) k =
     let next = param_known q k in
@@ -64,11 +64,11 @@ param_fns : (t : IntType) (constant : Bool) (n : Option Identifier) (k : Known) 
 param_fns t constant None k = refl
 param_fns t constant (Some x) k = refl
 
-params_fns : (ps : List Parameter) (k : Known) → (params_known ps k).fns ≡ k.fns
+pub params_fns : (ps : List Parameter) (k : Known) → (params_known ps k).fns ≡ k.fns
 params_fns [] k = refl
 params_fns (q ∷ ps) k = params_fns ps (param_known q k) ∙ param_fns (named q.type_name.integer) (is_some q.constant) q.name k
 
-unnamed : (q : Place) → at q CFunctionType ≡ [] → ⊥
+pub unnamed : (q : Place) → at q CFunctionType ≡ [] → ⊥
 unnamed q h = cc
 
 module _ (p : CProgram) (all : List Site) (f : ℕ) (few : length p.locals < 4294967296) where
@@ -142,7 +142,7 @@ module _ (p : CProgram) (all : List Site) (f : ℕ) (few : length p.locals < 429
       param_then ps (params_fit ps) (parameter_start q) (named q.type_name.integer) (is_some q.constant) q.name (named_is q.type_name.integer) xs k s locals
       (none_left (param_offences k q) (params_offences (param_known q k) ps) none) (none_right (param_offences k q) (params_offences (param_known q k) ps) none) size
 
-result_is : (r : ResultType) → IfSome (result_of r) IsType
+pub result_is : (r : ResultType) → IfSome (result_of r) IsType
 result_is (result.Void q) = tt
 result_is (result.Integer ty) = named_is ty.integer
 

@@ -1,2 +1,12 @@
+pub mod Lists
 pub mod Objects
 pub mod Functions
+pub mod Quiet
+pub mod Adding
+pub mod Defining
+pub mod Tables
+pub mod Growing
+pub mod Heads
+pub mod Reaching
+pub mod Placing
+pub mod Programs

@@ -3,7 +3,7 @@
 //! Nothing here does anything: each function is the statement of a law.
 #![tactic(auto)]
 
-ghost use Rattle.c_program_laws.specs.Laws.{BodiesFit, ObjectsFit};
+ghost use Rattle.c_program_laws.specs.Laws.{BodiesFit, ObjectsFit, ProgramsFit};
 
 /// The objects of file scope that a declaration declares are well-formed.
 pub fn objects_fit()
@@ -13,4 +13,9 @@ pub fn objects_fit()
 /// The body of a function is well-formed where its parameters are declared.
 pub fn bodies_fit()
     ensures { BodiesFit }
+{}
+
+/// The typed program of a whole file is well-formed.
+pub fn programs_fit()
+    ensures { ProgramsFit }
 {}

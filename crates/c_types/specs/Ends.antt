@@ -1,5 +1,5 @@
 -- How typing ends.
-use Rattle.std.specs.Prelude.{◌≡◌, ℕ, ◌<◌, List, [], ◌∷◌, length, drop, Some, None, Result, Ok, Err}
+use Rattle.std.specs.Prelude.{◌≡◌, ℕ, ◌<◌, ◌^◌, List, [], ◌∷◌, length, drop, Some, None, Result, Ok, Err}
 use Rattle.src_text.specs.declared.refusal.Lang.TheVariants.{C}
 use Rattle.src_text.specs.declared.refusal.Refusal.{Refusal}
 use Rattle.c_tree.specs.declared.file.CTree.{CTree}
@@ -25,11 +25,18 @@ abbrev pub IsEnd : List Offence → TypeEnd → Type 0
 IsEnd offences (Refused r) = (o : Offence) × IsHead (offences ∷ []) o × (r ≡ refusal_of o)
 IsEnd offences Memory = Unit {0}
 
--- a program stands where nothing is wrong
+-- the places in a program's lists are numbers of 32 bits
+pub record IsShort (p : CProgram) : Type 0 where
+  pub functions : length p.functions < 2 ^ 32
+  pub globals : length p.globals < 2 ^ 32
+  pub locals : length p.locals < 2 ^ 32
+  pub props : length p.props < 2 ^ 32
+
+-- a program stands where nothing is wrong, and its places have numbers
 abbrev pub IsJudged : Typed → Result CProgram TypeEnd → Type 0
-IsJudged t (Ok p) = (t.first ≡ None) × (p ≡ t.program)
+IsJudged t (Ok p) = (t.first ≡ None) × (p ≡ t.program) × IsShort p
 IsJudged t (Err (Refused r)) = (o : Offence) × (t.first ≡ Some o) × (r ≡ refusal_of o)
-IsJudged t (Err Memory) = ⊥
+IsJudged t (Err Memory) = t.first ≡ None
 
 -- a file that was gone through
 pub record IsTypedFile (tree : CTree) (t : Typed) : Type 0 where

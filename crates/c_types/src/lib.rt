@@ -8,7 +8,7 @@ mod file;
 
 ghost use Rattle.std.specs.Prelude.{◌≡◌, [], IfOk, OnOk, IfErr};
 ghost use Rattle.c_types.specs.Files.{c_offences, program_of};
-ghost use Rattle.c_types.specs.Ends.{IsEnd};
+ghost use Rattle.c_types.specs.Ends.{IsEnd, IsShort};
 
 use crate::ends::judged;
 use crate::file::run;
@@ -21,6 +21,7 @@ use std::alloc::Global;
 pub fn typed(alloc: Global, tree: &CTree) -> Result<CProgram, TypeEnd>
     ensures typed { IfOk result (λ p. p ≡ program_of tree.now) }
     ensures none { OnOk result (c_offences tree.now ≡ []) }
+    ensures short { IfOk result IsShort }
     ensures refused { IfErr result (IsEnd (c_offences tree.now)) }
 {
     match run(alloc, tree) {
