@@ -1,2 +1,3 @@
-pub mod Readings
+pub mod Terms
+pub mod Draws
 pub mod Starts

@@ -18,7 +18,7 @@ use Rattle.trails.proofs.Ways.{joined_twice}
 use Rattle.unwind_state.specs.Guards.{bits_of}
 use Rattle.unwind_state.specs.Images.{look, IsBehind}
 use Rattle.unwind_module.specs.Starting.{MainCovers}
-use Rattle.unwind_module.proofs.Readings.{reads_follow}
+use Rattle.unwind_module.proofs.Draws.{reads_follow}
 
 -- the end of a run behind its last statement
 end_follows : (event : Event) (run : List ℕ → Effect) (t : Trail) (guards : Way → ℕ) (holds : Way → JointState → Type 0) → Follows run t guards holds goes →
