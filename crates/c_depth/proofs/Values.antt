@@ -1,5 +1,5 @@
 -- How a value looks: the place of its first token, and its nodes.
-use Rattle.std.proofs.Common.{List, map, option_map}
+use Rattle.std.proofs.Common.{◌≡◌, List, map, option_map}
 use Rattle.std.specs.declared.option.Option.{Option}
 use Rattle.std.specs.declared.option.Option.TheVariants.{None, Some}
 use Rattle.src_text.specs.declared.refusal.Place.{Place}
@@ -25,7 +25,7 @@ use Rattle.c_stack.specs.declared.values.PartValue.TheVariants as part_value
 use Rattle.c_stack.specs.declared.values.StatementValue.TheVariants as statement_value
 use Rattle.c_stack.specs.declared.values.SwitchValue.TheVariants as switch_value
 use Rattle.c_stack.specs.declared.values.FileValue.TheVariants as file_value
-use Rattle.node_places.proofs.Looks.{PlaceLook, first_in}
+use Rattle.node_places.proofs.Looks.{PlaceLook, first_in, placed_weaves}
 use Rattle.node_depth.specs.declared.weave.Weave.{Weave}
 
 abbrev pub storage_first : Storage → Option Place

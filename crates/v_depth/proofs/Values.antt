@@ -1,5 +1,5 @@
 -- How a value looks: the place of its first token, and its nodes.
-use Rattle.std.proofs.Common.{List, [], ◌∷◌, map, option_map, option_and_then}
+use Rattle.std.proofs.Common.{◌≡◌, List, [], ◌∷◌, map, option_map, option_and_then}
 use Rattle.std.specs.declared.option.Option.{Option}
 use Rattle.std.specs.declared.option.Option.TheVariants.{None, Some}
 use Rattle.src_text.specs.declared.refusal.Place.{Place}
@@ -34,7 +34,7 @@ use Rattle.v_stack.specs.declared.values.NamesValue.TheVariants as NamesValue
 use Rattle.v_stack.specs.declared.values.ConnectValue.TheVariants as ConnectValue
 use Rattle.v_stack.specs.declared.values.PartValue.TheVariants as PartValue
 use Rattle.v_stack.specs.declared.values.ModuleValue.TheVariants as ModuleValue
-use Rattle.node_places.proofs.Looks.{PlaceLook, first_in}
+use Rattle.node_places.proofs.Looks.{PlaceLook, first_in, placed_weaves}
 use Rattle.node_depth.specs.declared.weave.Weave.{Weave}
 
 -- the place of the first of some trees, which is where a selection begins
