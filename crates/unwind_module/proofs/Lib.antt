@@ -1,3 +1,4 @@
 pub mod Terms
 pub mod Draws
+pub mod Choices
 pub mod Starts
