@@ -41,8 +41,8 @@ use Rattle.unwind_state.proofs.Stretches.{unwinds_as, added_before, begun}
 use Rattle.unwind_simple.specs.declared.simple.Activation.{Activation}
 use Rattle.unwind_simple.specs.Simple.{setting_of, is_in, IsValued, IsDone}
 use Rattle.unwind_simple.proofs.Statements.{zero_number}
-use Rattle.unwind_blocks.specs.Blocks.{IsTested}
-use Rattle.unwind_blocks.proofs.Orders.{fixed, state, behind, fewer, stays, declares, Sofar, left_first, left_more, left_none}
+use Rattle.unwind_blocks.specs.Blocks.{IsTested, IsStretch, IsUnwound, AreUnwound, behind_items, between, calls_in}
+use Rattle.unwind_blocks.proofs.Orders.{fixed, state, behind, fewer, out_of, stays, declares, items_declare, Sofar, left_first, left_more, left_none}
 
 -- what stays
 
@@ -101,12 +101,16 @@ lt_is : (n : ℕ) → nat_lt 0 n ≡ isnt_zero n
 lt_is zero = refl
 lt_is (suc n) = some_lt (suc n) (omega arith)
 
-by_zero : (n : ℕ) (x y : Effect) → (if nat_lt 0 n then x else y) ≡ (if at_zero n true false then y else x)
+pub by_zero : (n : ℕ) (x y : Effect) → (if nat_lt 0 n then x else y) ≡ (if at_zero n true false then y else x)
 by_zero n x y = ap (λ b. if b then x else y) (lt_is n) ∙ by_case n
   where
     by_case : (m : ℕ) → (if isnt_zero m then x else y) ≡ (if at_zero m true false then y else x)
     by_case zero = refl
     by_case (suc m) = refl
+
+-- a choice by a word, as one by the number that it stands for
+pub by_value : (ty : IntType) (n : ℕ) (x y : Effect) → (if nat_lt 0 n then x else y) ≡ (if is_zero (number ty.signed ty.bits n) then y else x)
+by_value ty n x y = by_zero n x y ∙ ap (λ b. if b then y else x) (sym (zero_number ty.signed ty.bits n))
 
 module _ (a : Activation) where
   pub tested_made : (n0 n1 n2 n3 : Unrolled) (s : State) (e : TExpr) (g : Guard) (t set : SizedTerm) (sides : Sides) → IsValued a n0 n1 s e g t → IsMade n1.terms n2.terms 1 (3 * t.width) 1 set (λ v. bit (nat_lt 0 (bits v t))) → n2.list ≡ n1.list →
@@ -119,67 +123,77 @@ module _ (a : Activation) where
   pub objects_grow : (g h : Graph) (o : Objects) → Grows g h → HasObjects a.pair.now.program g o → HasObjects a.pair.now.program h o
   objects_grow g h o G p = record { count = p.count; has = λ slot there k u at. G.kept (sized u (slot_type a.pair.now.program slot).bits) (p.has slot there k u at) }
 
-  pub done_if : (n0 n3 n4 n5 n6 : Unrolled) (s0 s1 s2 : State) (e : TExpr) (g : Guard) (sides : Sides) (fa fb f : Flow) (c : Scope) (ys zs : List ℕ) (ra rb : Calls → Onward) → IsTested a n0 n3 s0 e g sides →
-      IsDone a n3 n4 s0 s1 sides.taken fa c.locals ys ra → IsDone a n4 n5 s1 s2 sides.other fb c.locals zs rb → IsFlow n5 n6 f (λ v way. bit_or (bits_of v fa way) (bits_of v fb way)) →
+  pub done_if : (n0 n3 n4 n5 n6 : Unrolled) (s0 s1 s2 : State) (e : TExpr) (g : Guard) (sides : Sides) (fa fb f : Flow) (c : Scope) (ys zs : List ℕ) (ra rb : Onward) → IsTested a n0 n3 s0 e g sides →
+      IsUnwound a n3 n4 s0 s1 sides.taken fa c.locals ys ra → IsUnwound a n4 n5 s1 s2 sides.other fb c.locals zs rb → IsFlow n5 n6 f (λ v way. bit_or (bits_of v fa way) (bits_of v fb way)) →
       ((j : ℕ) → Contains c.locals j → Contains ys j) → ((j : ℕ) → Contains c.locals j → Contains zs j) → is_in a c → FitsExpr c e →
-      IsDone a n0 n6 s0 s2 g f c.locals c.locals (λ calls s c. with_value (value_of (rows_in (setting_of a) s) e) c (λ n. if is_zero n then rb calls s c else ra calls s c))
-  done_if n0 n3 n4 n5 n6 s0 s1 s2 e g sides fa fb f sc ys zs ra rb T A B J subA subB inside fits = record {
-    grows = grows_then n0.terms n3.terms n6.terms (tested_grows n0 n3 s0 e g sides T) (grows_then n3.terms n4.terms n6.terms A.grows (grows_then n4.terms n5.terms n6.terms B.grows (grows_adds n5 n6 J.adds)));
-    objects = objects_grow n5.terms n6.terms s2.objects (grows_adds n5 n6 J.adds) B.objects;
-    flow = J.has;
-    does = λ calls.
-        let k = setting_of a in
-        let t = T.value in
-        let K : ℤ → Onward = λ n s c. if is_zero n then rb calls s c else ra calls s c in
-        let A' = unwinds_as (fixed a) n3 n4 s0 s1 (λ v. ra calls) (λ v. ra calls) sides.taken fa (state a sc.locals) (state a sc.locals) (behind a ys) (behind a sc.locals) goes goes (λ x s h. h) (λ v r s h c. refl) (fewer a sc.locals ys subA) (λ w s c. refl) (A.does calls) in
-        let B' = unwinds_as (fixed a) n4 n5 s1 s2 (λ v. rb calls) (λ v. rb calls) sides.other fb (state a sc.locals) (state a sc.locals) (behind a zs) (behind a sc.locals) goes goes (λ x s h. h) (λ v r s h c. refl) (fewer a sc.locals zs subB) (λ w s c. refl) (B.does calls) in
-        let D = branch (fixed a) T.n2 n3 n4 n5 n6 s0 s1 s2 T.set (λ v. nat_lt 0 (bits v t)) (λ v. ra calls) (λ v. rb calls) g sides fa fb f (state a sc.locals) (behind a sc.locals) goes T.is T.split A' B' J in
-        let D' = added_before (fixed a) T.n1 T.n2 n6 s0 s2 (λ v s c. if nat_lt 0 (bits v t) then ra calls s c else rb calls s c) g f (state a sc.locals) (behind a sc.locals) goes T.adds D in
-        let D'' = unwinds_as (fixed a) T.n1 n6 s0 s2 (λ v s c. if nat_lt 0 (bits v t) then ra calls s c else rb calls s c) (λ v. K (number e.ty.signed e.ty.bits (bits v t))) g f (state a sc.locals) (state a sc.locals) (behind a sc.locals) (behind a sc.locals) goes goes
-        (λ x s h. h) (λ v r s h c. by_zero (bits v t) (ra calls s c) (rb calls s c) ∙ ap (λ b. if b then rb calls s c else ra calls s c) (sym (zero_number e.ty.signed e.ty.bits (bits v t)))) (λ w x s h. h) (λ w s c. refl) D' in
-        ask (fixed a) n0 T.n1 n6 s0 s2 e.ty (λ s. value_of (rows_in k s) e) K g t f (state a sc.locals) (behind a sc.locals) goes (T.valued.asks sc inside fits) D'';
-  }
+      IsUnwound a n0 n6 s0 s2 g f c.locals c.locals (λ s c. with_value (value_of (rows_in (setting_of a) s) e) c (λ n. if is_zero n then rb s c else ra s c))
+  done_if n0 n3 n4 n5 n6 s0 s1 s2 e g sides fa fb f sc ys zs ra rb T A B J subA subB inside fits =
+      let k = setting_of a in
+      let t = T.value in
+      let K : ℤ → Onward = λ n s c. if is_zero n then rb s c else ra s c in
+      let A' = unwinds_as (fixed a) n3 n4 s0 s1 (λ v. ra) (λ v. ra) sides.taken fa (state a sc.locals) (state a sc.locals) (behind a ys) (behind a sc.locals) goes goes (λ x s h. h) (λ v r s h c. refl) (fewer a sc.locals ys subA) (λ w s c. refl) A.does in
+      let B' = unwinds_as (fixed a) n4 n5 s1 s2 (λ v. rb) (λ v. rb) sides.other fb (state a sc.locals) (state a sc.locals) (behind a zs) (behind a sc.locals) goes goes (λ x s h. h) (λ v r s h c. refl) (fewer a sc.locals zs subB) (λ w s c. refl) B.does in
+      let D = branch (fixed a) T.n2 n3 n4 n5 n6 s0 s1 s2 T.set (λ v. nat_lt 0 (bits v t)) (λ v. ra) (λ v. rb) g sides fa fb f (state a sc.locals) (behind a sc.locals) goes T.is T.split A' B' J in
+      let D' = added_before (fixed a) T.n1 T.n2 n6 s0 s2 (λ v s c. if nat_lt 0 (bits v t) then ra s c else rb s c) g f (state a sc.locals) (behind a sc.locals) goes T.adds D in
+      let D'' = unwinds_as (fixed a) T.n1 n6 s0 s2 (λ v s c. if nat_lt 0 (bits v t) then ra s c else rb s c) (λ v. K (number e.ty.signed e.ty.bits (bits v t))) g f (state a sc.locals) (state a sc.locals) (behind a sc.locals) (behind a sc.locals) goes goes
+      (λ x s h. h) (λ v r s h c. by_value e.ty (bits v t) (ra s c) (rb s c)) (λ w x s h. h) (λ w s c. refl) D' in
+      record {
+        grows = grows_then n0.terms n3.terms n6.terms (tested_grows n0 n3 s0 e g sides T) (grows_then n3.terms n4.terms n6.terms A.grows (grows_then n4.terms n5.terms n6.terms B.grows (grows_adds n5 n6 J.adds)));
+        objects = objects_grow n5.terms n6.terms s2.objects (grows_adds n5 n6 J.adds) B.objects;
+        flow = J.has;
+        does = ask (fixed a) n0 T.n1 n6 s0 s2 e.ty (λ s. value_of (rows_in k s) e) K g t f (state a sc.locals) (behind a sc.locals) goes (T.valued.asks sc inside fits) D'';
+      }
+
+  -- a statement that does one thing whatever calls do
+  pub unwound : (n0 n1 : Unrolled) (s0 s1 : State) (g : Guard) (f : Flow) (xs ys : List ℕ) (run : Calls → Onward) → IsDone a n0 n1 s0 s1 g f xs ys run → IsUnwound a n0 n1 s0 s1 g f xs ys (run (calls_in a))
+  unwound n0 n1 s0 s1 g f xs ys run D = record { grows = D.grows; objects = D.objects; flow = D.flow; does = D.does (calls_in a) }
 
   -- the same run in other words
-  pub done_as : (n0 n1 : Unrolled) (s0 s1 : State) (g : Guard) (f : Flow) (xs ys : List ℕ) (ra rb : Calls → Onward) → ((calls : Calls) → ra calls ≡ rb calls) → IsDone a n0 n1 s0 s1 g f xs ys ra → IsDone a n0 n1 s0 s1 g f xs ys rb
-  done_as n0 n1 s0 s1 g f xs ys ra rb e D = record {
-    grows = D.grows;
-    objects = D.objects;
-    flow = D.flow;
-    does = λ calls. subst (λ (r : Onward). Unwinds (fixed a) n0 n1 s0 s1 (λ v. r) g f (state a xs) (behind a ys) goes) (e calls) (D.does calls);
-  }
+  pub done_as : (n0 n1 : Unrolled) (s0 s1 : State) (g : Guard) (f : Flow) (xs ys : List ℕ) (ra rb : Onward) → ra ≡ rb → IsUnwound a n0 n1 s0 s1 g f xs ys ra → IsUnwound a n0 n1 s0 s1 g f xs ys rb
+  done_as n0 n1 s0 s1 g f xs ys ra rb e D = subst (λ (r : Onward). IsUnwound a n0 n1 s0 s1 g f xs ys r) e D
 
   -- a statement that declares nothing, as the tree has it
+  pub unwound_at : (n0 n1 : Unrolled) (s0 s1 : State) (g : Guard) (f : Flow) (xs : List ℕ) (t : TStmt) (node : SNode) (run : Onward) → t.node ≡ node → declared_behind node xs ≡ xs →
+      run ≡ after (setting_of a) (calls_in a) t.place t.node → IsUnwound a n0 n1 s0 s1 g f xs xs run →
+      IsUnwound a n0 n1 s0 s1 g f xs (declared_behind t.node xs) (after (setting_of a) (calls_in a) t.place t.node)
+  unwound_at n0 n1 s0 s1 g f xs t node run is none e D =
+      subst (λ (ys : List ℕ). IsUnwound a n0 n1 s0 s1 g f xs ys (after (setting_of a) (calls_in a) t.place t.node)) (sym (ap (λ (m : SNode). declared_behind m xs) is ∙ none))
+      (done_as n0 n1 s0 s1 g f xs xs run (after (setting_of a) (calls_in a) t.place t.node) e D)
+
+  -- the same of one that does one thing whatever calls do
   pub done_at : (n0 n1 : Unrolled) (s0 s1 : State) (g : Guard) (f : Flow) (xs : List ℕ) (t : TStmt) (node : SNode) (run : Calls → Onward) → t.node ≡ node → declared_behind node xs ≡ xs →
       ((calls : Calls) → run calls ≡ after (setting_of a) calls t.place t.node) → IsDone a n0 n1 s0 s1 g f xs xs run →
-      IsDone a n0 n1 s0 s1 g f xs (declared_behind t.node xs) (λ calls. after (setting_of a) calls t.place t.node)
-  done_at n0 n1 s0 s1 g f xs t node run is none e D =
-      subst (λ (ys : List ℕ). IsDone a n0 n1 s0 s1 g f xs ys (λ calls. after (setting_of a) calls t.place t.node)) (sym (ap (λ (m : SNode). declared_behind m xs) is ∙ none))
-      (done_as n0 n1 s0 s1 g f xs xs run (λ calls. after (setting_of a) calls t.place t.node) e D)
+      IsUnwound a n0 n1 s0 s1 g f xs (declared_behind t.node xs) (after (setting_of a) (calls_in a) t.place t.node)
+  done_at n0 n1 s0 s1 g f xs t node run is none e D = unwound_at n0 n1 s0 s1 g f xs t node (run (calls_in a)) is none (e (calls_in a)) (unwound n0 n1 s0 s1 g f xs xs run D)
 
   -- fewer locals are asked for behind a statement
-  pub done_fewer : (n0 n1 : Unrolled) (s0 s1 : State) (g : Guard) (f : Flow) (xs ys : List ℕ) (run : Calls → Onward) → ((j : ℕ) → Contains xs j → Contains ys j) → IsDone a n0 n1 s0 s1 g f xs ys run → IsDone a n0 n1 s0 s1 g f xs xs run
+  pub done_fewer : (n0 n1 : Unrolled) (s0 s1 : State) (g : Guard) (f : Flow) (xs ys : List ℕ) (run : Onward) → ((j : ℕ) → Contains xs j → Contains ys j) → IsUnwound a n0 n1 s0 s1 g f xs ys run → IsUnwound a n0 n1 s0 s1 g f xs xs run
   done_fewer n0 n1 s0 s1 g f xs ys run sub D = record {
     grows = D.grows;
     objects = D.objects;
     flow = D.flow;
-    does = λ calls. unwinds_as (fixed a) n0 n1 s0 s1 (λ v. run calls) (λ v. run calls) g f (state a xs) (state a xs) (behind a ys) (behind a xs) goes goes (λ x s h. h) (λ v r s h c. refl) (fewer a xs ys sub) (λ w s c. refl) (D.does calls);
+    does = unwinds_as (fixed a) n0 n1 s0 s1 (λ v. run) (λ v. run) g f (state a xs) (state a xs) (behind a ys) (behind a xs) goes goes (λ x s h. h) (λ v r s h c. refl) (fewer a xs ys sub) (λ w s c. refl) D.does;
   }
+
+  -- nothing is done, and the run goes on one way
+  pub stretch_way : (n : Unrolled) (s : State) (way : Way) (g : Guard) (f : Flow) (xs : List ℕ) (out : Way → Onward) → ((x : Image) (q : JointState) → state a xs x q → behind a xs way x q) → IsGraph n.terms → HasObjects a.pair.now.program n.terms s.objects → HasGuard n.terms g → f ≡ flow_at way g →
+      IsStretch a n n s s g f (state a xs) (behind a xs) (out way) out
+  stretch_way n s way g f xs out post proper objects has is =
+      subst (λ (h : Flow). IsStretch a n n s s g h (state a xs) (behind a xs) (out way) out) (sym is)
+      (record { grows = grows_none n.terms proper; objects = objects; flow = only_has n.terms way g has; does = begun (fixed a) n s way g (state a xs) (behind a xs) out post })
 
   -- one way on, with nothing done
   pub done_way : (n : Unrolled) (s : State) (way : Way) (g : Guard) (f : Flow) (xs : List ℕ) → ((x : Image) (q : JointState) → state a xs x q → behind a xs way x q) → IsGraph n.terms → HasObjects a.pair.now.program n.terms s.objects → HasGuard n.terms g → f ≡ flow_at way g →
-      IsDone a n n s s g f xs xs (λ calls. goes way)
-  done_way n s way g f xs post proper objects has is =
-      subst (λ (h : Flow). IsDone a n n s s g h xs xs (λ calls. goes way)) (sym is)
-      (record { grows = grows_none n.terms proper; objects = objects; flow = only_has n.terms way g has; does = λ calls. begun (fixed a) n s way g (state a xs) (behind a xs) goes post })
+      IsUnwound a n n s s g f xs xs (goes way)
+  done_way n s way g f xs post proper objects has is = stretch_way n s way g f xs goes post proper objects has is
 
   -- statements of a list, so far
   pub sofar_first : (n : Unrolled) (s : State) (items : List TStmt) (g : Guard) (f : Flow) → IsGraph n.terms → HasObjects a.pair.now.program n.terms s.objects → HasGuard n.terms g → f ≡ flow_at Next g → Sofar a n n s s items 0 g f
   sofar_first n s items g f proper objects has is =
-      subst (Sofar a n n s s items 0 g) (sym is) (record { grows = grows_none n.terms proper; objects = objects; flow = only_has n.terms Next g has; does = λ c inside fits calls. left_first a n s items g c calls })
+      subst (Sofar a n n s s items 0 g) (sym is) (record { grows = grows_none n.terms proper; objects = objects; flow = only_has n.terms Next g has; does = λ c inside fits. left_first a n s items g c })
 
   pub sofar_more : (n0 n1 n2 n3 : Unrolled) (s0 s1 s2 : State) (items : List TStmt) (i : ℕ) (x : TStmt) (g : Guard) (ways f ways' : Flow) → drop i items ≡ x ∷ drop (suc i) items → (d : Scope) → is_in a d → FitsStmt d x.node → Sofar a n0 n1 s0 s1 items i g ways →
-      ((d : Scope) → is_in a d → FitsStmt d x.node → IsDone a n1 n2 s1 s2 ways.next f d.locals (declared_behind x.node d.locals) (λ calls. after (setting_of a) calls x.place x.node)) →
+      ((d : Scope) → is_in a d → FitsStmt d x.node → IsUnwound a n1 n2 s1 s2 ways.next f d.locals (declared_behind x.node d.locals) (after (setting_of a) (calls_in a) x.place x.node)) →
       IsFlow n2 n3 ways' (λ v way. merge_of way (bits_of v ways way) (bits_of v f way)) → Sofar a n0 n3 s0 s2 items (suc i) g ways'
   sofar_more n0 n1 n2 n3 s0 s1 s2 items i x g ways f ways' here d inside fits S D E =
       let one = D d inside fits in
@@ -187,16 +201,26 @@ module _ (a : Activation) where
         grows = grows_then n0.terms n1.terms n3.terms S.grows (grows_then n1.terms n2.terms n3.terms one.grows (grows_adds n2 n3 E.adds));
         objects = objects_grow n2.terms n3.terms s2.objects (grows_adds n2 n3 E.adds) one.objects;
         flow = E.has;
-        does = λ c q h calls. left_more a n0 n1 n2 n3 s0 s1 s2 items i x g ways f ways' c calls here q h (S.does c q h calls) D E;
+        does = λ c q h. left_more a n0 n1 n2 n3 s0 s1 s2 items i x g ways f ways' c here q h (S.does c q h) D E;
       }
 
   pub sofar_last : (n0 n1 : Unrolled) (s0 s1 : State) (items : List TStmt) (i : ℕ) (g : Guard) (ways : Flow) → drop i items ≡ [] → Sofar a n0 n1 s0 s1 items i g ways → (c : Scope) → is_in a c → FitsItems c items →
-      IsDone a n0 n1 s0 s1 g ways c.locals c.locals (λ calls. after_items (setting_of a) calls items)
+      AreUnwound a n0 n1 s0 s1 g ways c.locals (behind_items items c.locals) (after_items (setting_of a) (calls_in a) items)
   sofar_last n0 n1 s0 s1 items i g ways over S c inside fits = record {
     grows = S.grows;
     objects = S.objects;
     flow = S.flow;
-    does = λ calls. left_none a n0 n1 s0 s1 items i g ways c calls over (S.does c inside fits calls);
+    does = left_none a n0 n1 s0 s1 items i g ways c over (S.does c inside fits);
+  }
+
+  -- a block: what is declared in it isn't declared behind it
+  pub done_block : (n0 n1 : Unrolled) (s0 s1 : State) (items : List TStmt) (g : Guard) (f : Flow) (xs : List ℕ) (run : Onward) → AreUnwound a n0 n1 s0 s1 g f xs (behind_items items xs) run → IsUnwound a n0 n1 s0 s1 g f xs xs run
+  done_block n0 n1 s0 s1 items g f xs run D = record {
+    grows = D.grows;
+    objects = D.objects;
+    flow = D.flow;
+    does = unwinds_as (fixed a) n0 n1 s0 s1 (λ v. run) (λ v. run) g f (state a xs) (state a xs) (between a xs (behind_items items xs)) (behind a xs) goes goes (λ x s h. h) (λ v r s h c. refl)
+        (out_of a xs (behind_items items xs) (items_declare items xs)) (λ w s c. refl) D.does;
   }
 
   returned_nothing : (t : Option IntType) (x : Image) (q : JointState) → HasReturned t Breaking x q × HasReturned t Continuing x q

@@ -1,2 +1,4 @@
 pub mod Orders
 pub mod Branches
+pub mod Falling
+pub mod Turns

@@ -1,37 +1,40 @@
-// Statements: blocks and branches.
+// Statements in one another.
 
 ghost use Rattle.std.specs.Prelude.{◌≡◌, IfOk};
-ghost use Rattle.joint_ir.specs.Statements.{after};
-ghost use Rattle.joint_ir.specs.WellFormed.{Scope, FitsStmt, declared_behind};
+ghost use Rattle.joint_ir.specs.Statements.{after, after_loop};
+ghost use Rattle.joint_ir.specs.WellFormed.{Scope, FitsStmt, FitsLoop, declared_behind};
 ghost use Rattle.joint_lists.specs.Lists.{after_items, after_option, FitsItems, FitsOptional};
-ghost use Rattle.unwind_simple.specs.Simple.{IsDone, is_in, setting_of};
-ghost use Rattle.unwind_blocks.specs.Blocks.{MayRun, MayRunItems, MayRunOptional};
+ghost use Rattle.unwind_simple.specs.Simple.{is_in, setting_of};
+ghost use Rattle.unwind_blocks.specs.Blocks.{MayRun, IsUnwound, AreUnwound, behind_items, calls_in};
+ghost use Rattle.unwind_blocks.specs.Loops.{FitsTurn, IsPart, turn_of, loop_in};
 
+use crate::loops::{begun, ended, test};
 use crate::tests_of::{plain_store, tested};
-use joint_ir::{SNode, TStmt, Way};
+use joint_ir::{SNode, TLoop, TStmt, Way, lookup};
 use sqlite_items::Boxed;
-use std::alloc::AllocError;
+use std::alloc::{AllocError, Global};
 use unrolled::Unrolled;
 use unwind_simple::{Activation, assert, assume};
-use unwind_state::{Flow, Guard, State, joined, merged};
+use unwind_state::{Flow, Guard, State, joined, merged, turned};
 
 /// A statement under a guard, with the guards of the ways on. Those that aren't made yet end as want of memory does.
 #[cycle(blocks)]
 pub fn stmt(
+    alloc: Global,
     net: &mut Unrolled,
     at: &Activation,
     state: &mut State,
     s: &TStmt,
     guard: Guard,
 ) -> Result<Flow, AllocError>
-    requires { MayRun at.now net.old state.old s.now.node guard }
-    ensures { IfOk result (λ f. (c : Scope) → is_in at.now c → FitsStmt c s.now.node → IsDone at.now net.old net.new state.old state.new guard f c.locals (declared_behind s.now.node c.locals) (λ calls. after (setting_of at.now) calls s.now.place s.now.node)) }
+    requires { MayRun at.now net.old state.old guard (λ c. FitsStmt c s.now.node) }
+    ensures { IfOk result (λ f. (c : Scope) → is_in at.now c → FitsStmt c s.now.node → IsUnwound at.now net.old net.new state.old state.new guard f c.locals (declared_behind s.now.node c.locals) (after (setting_of at.now) (calls_in at.now) s.now.place s.now.node)) }
 {
     // The terms are a graph.
     let _ = net.terms.len();
     match &s.node {
         SNode::Block(items) => {
-            let f = block(net, at, state, items.as_slice(), guard)?;
+            let f = block(alloc, net, at, state, items.as_slice(), guard)?;
             Ok(f)
         }
         SNode::Store(target, init) => {
@@ -40,9 +43,13 @@ pub fn stmt(
         }
         SNode::If(e, body, other) => {
             let sides = tested(net, at, state, e.get(), guard)?;
-            let a = stmt(net, at, state, body.get(), sides.taken)?;
-            let b = optional(net, at, state, other, sides.other)?;
+            let a = stmt(alloc, net, at, state, body.get(), sides.taken)?;
+            let b = optional(alloc, net, at, state, other, sides.other)?;
             let f = joined(net, a, b)?;
+            Ok(f)
+        }
+        SNode::Loop(one) => {
+            let f = repeat(alloc, net, at, state, one, guard)?;
             Ok(f)
         }
         SNode::Break => Ok(Flow::only(Way::Breaking, guard)),
@@ -62,20 +69,21 @@ pub fn stmt(
 /// A statement that may be left out.
 #[cycle(blocks)]
 fn optional(
+    alloc: Global,
     net: &mut Unrolled,
     at: &Activation,
     state: &mut State,
     other: &Option<Boxed<TStmt>>,
     guard: Guard,
 ) -> Result<Flow, AllocError>
-    requires { MayRunOptional at.now net.old state.old other.now guard }
-    ensures { IfOk result (λ f. (c : Scope) → is_in at.now c → FitsOptional c other.now → IsDone at.now net.old net.new state.old state.new guard f c.locals c.locals (λ calls. after_option (setting_of at.now) calls other.now)) }
+    requires { MayRun at.now net.old state.old guard (λ c. FitsOptional c other.now) }
+    ensures { IfOk result (λ f. (c : Scope) → is_in at.now c → FitsOptional c other.now → IsUnwound at.now net.old net.new state.old state.new guard f c.locals c.locals (after_option (setting_of at.now) (calls_in at.now) other.now)) }
 {
     let _ = net.terms.len();
     match other {
         None => Ok(Flow::only(Way::Next, guard)),
         Some(s) => {
-            let f = stmt(net, at, state, s.get(), guard)?;
+            let f = stmt(alloc, net, at, state, s.get(), guard)?;
             Ok(f)
         }
     }
@@ -84,20 +92,85 @@ fn optional(
 /// Statements, one after another.
 #[cycle(blocks)]
 fn block(
+    alloc: Global,
     net: &mut Unrolled,
     at: &Activation,
     state: &mut State,
     items: &[TStmt],
     guard: Guard,
 ) -> Result<Flow, AllocError>
-    requires { MayRunItems at.now net.old state.old items.now guard }
-    ensures { IfOk result (λ f. (c : Scope) → is_in at.now c → FitsItems c items.now → IsDone at.now net.old net.new state.old state.new guard f c.locals c.locals (λ calls. after_items (setting_of at.now) calls items.now)) }
+    requires { MayRun at.now net.old state.old guard (λ c. FitsItems c items.now) }
+    ensures { IfOk result (λ f. (c : Scope) → is_in at.now c → FitsItems c items.now → AreUnwound at.now net.old net.new state.old state.new guard f c.locals (behind_items items.now c.locals) (after_items (setting_of at.now) (calls_in at.now) items.now)) }
 {
     let _ = net.terms.len();
     let mut ways = Flow::only(Way::Next, guard);
     for s in items {
-        let f = stmt(net, at, state, s, ways.next)?;
+        let f = stmt(alloc, net, at, state, s, ways.next)?;
         ways = merged(net, ways, f)?;
     }
     Ok(ways)
+}
+
+/// A loop: at most so many turns as its limit (C99 6.8.5).
+#[cycle(blocks)]
+fn repeat(
+    alloc: Global,
+    net: &mut Unrolled,
+    at: &Activation,
+    state: &mut State,
+    one: &TLoop,
+    guard: Guard,
+) -> Result<Flow, AllocError>
+    requires { MayRun at.now net.old state.old guard (λ c. FitsLoop c one.now) }
+    ensures { IfOk result (λ f. (c : Scope) → is_in at.now c → FitsLoop c one.now → IsUnwound at.now net.old net.new state.old state.new guard f c.locals c.locals (after_loop (setting_of at.now) (calls_in at.now) one.now)) }
+{
+    let heads = block(alloc, net, at, state, one.heads.as_slice(), guard)?;
+    let rest = turns(alloc, net, at, state, one, heads.next)?;
+    let f = merged(net, heads, rest)?;
+    Ok(f)
+}
+
+/// A loop behind the first part of a `for`: so many turns as its limit, behind each the test of the next one.
+#[cycle(blocks)]
+fn turns(
+    alloc: Global,
+    net: &mut Unrolled,
+    at: &Activation,
+    state: &mut State,
+    one: &TLoop,
+    guard: Guard,
+) -> Result<Flow, AllocError>
+    requires { MayRun at.now net.old state.old guard (λ c. FitsTurn c one.now) }
+    ensures { IfOk result (λ f. (c : Scope) → is_in at.now c → FitsTurn c one.now → IsUnwound at.now net.old net.new state.old state.new guard f c.locals c.locals (loop_in at.now one.now)) }
+{
+    let mut ways = begun(net, at, state, one, guard)?;
+    let limit = lookup::limit(at.bounds, one.unwind);
+    for turn in 0..limit {
+        let f = round(alloc, net, at, state, one, ways.next)?;
+        ways = merged(net, ways, f)?;
+    }
+    let f = ended(net, ways, one.unwind)?;
+    Ok(f)
+}
+
+/// A turn of a loop: its body, the last part of a `for`, and the test of the next turn.
+#[cycle(blocks)]
+fn round(
+    alloc: Global,
+    net: &mut Unrolled,
+    at: &Activation,
+    state: &mut State,
+    one: &TLoop,
+    guard: Guard,
+) -> Result<Flow, AllocError>
+    requires { MayRun at.now net.old state.old guard (λ c. FitsTurn c one.now) }
+    ensures { IfOk result (λ f. (c : Scope) → is_in at.now c → FitsTurn c one.now → IsPart at.now net.old net.new state.old state.new guard f c.locals (turn_of at.now one.now)) }
+{
+    let a = stmt(alloc, net, at, state, one.body.get(), guard)?;
+    let body = turned(net, a)?;
+    let last = optional(alloc, net, at, state, &one.step, body.next)?;
+    let next = test(net, at, state, &one.cond, last.next)?;
+    let rest = merged(net, last, next)?;
+    let f = merged(net, body, rest)?;
+    Ok(f)
 }

@@ -2,6 +2,7 @@
 #![tactic(auto)]
 
 mod blocks;
+mod loops;
 mod tests_of;
 
 pub use blocks::stmt;

@@ -20,6 +20,10 @@ pub struct Activation<'a> {
     pub pair: &'a Pair,
     pub bounds: &'a Bounds,
     pub here: u32,
+    /// How many more activations may stand.
+    pub left: u32,
+    /// The functions whose activations stand, `main` first.
+    pub standing: &'a [u32],
 }
 
 /// The value of an expression as a term, with its checks as steps.

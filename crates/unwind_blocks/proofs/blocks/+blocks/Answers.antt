@@ -1,23 +1,27 @@
-use Rattle.std.proofs.Common.{◌≡◌, false, ℕ, suc, ◌+◌, List, [], ◌∷◌, take, drop, refl, sym, ap, ◌∙◌, subst, arith}
+use Rattle.std.proofs.Common.{◌≡◌, false, ℕ, suc, ◌+◌, ◌-◌, List, [], ◌∷◌, take, drop, refl, sym, ap, ◌∙◌, subst, arith}
 use Rattle.std.specs.Prelude.{Some}
 use Rattle.std.proofs.lemmas.Grind.{common_steps}
 use Rattle.std.proofs.lemmas.List.{drop_more}
 use Rattle.std.proofs.Math.ListN.{drop_of_length-le}
 use Rattle.joint_ir.specs.declared.expr.TExpr.{TExpr}
-use Rattle.joint_ir.specs.declared.stmt.SNode.{SNode, the_lemmas, Block, Store, If, Break, Continue, Assert, Assume}
+use Rattle.joint_ir.specs.declared.stmt.SNode.{SNode, the_lemmas, Block, Store, If, Loop, Break, Continue, Assert, Assume}
+use Rattle.joint_ir.specs.declared.stmt.TLoop.{out-TLoop}
 use Rattle.joint_ir.specs.declared.stmt.TStmt.{TStmt}
 use Rattle.joint_ir.specs.declared.way.Way.TheVariants.{Next, Breaking, Continuing}
-use Rattle.joint_ir.specs.Statements.{after}
+use Rattle.joint_ir.specs.Statements.{after, after_loop, tested as tested_as}
 use Rattle.joint_ir.specs.declared.program.CProgram.{CProgram}
 use Rattle.joint_ir.specs.Steps.{slot_type, store_effect}
-use Rattle.joint_ir.specs.WellFormed.{Scope, FitsExpr, FitsInit, FitsStmt, declared_behind}
+use Rattle.joint_ir.specs.WellFormed.{Scope, FitsExpr, FitsInit, FitsLoop, FitsOption, FitsStmt, declared_behind}
 use Rattle.joint_lists.specs.Lists.{after_items, after_option, FitsItems, FitsOptional}
 use Rattle.joint_lists.proofs.Rows.{after-block, after-if}
 use Rattle.joint_lists.proofs.Shapes.{fits-block, fits-if}
 use Rattle.trails.specs.Following.{goes}
 use Rattle.unwind_simple.specs.Simple.{setting_of, asserted_as, assumed_as}
 use Rattle.unwind_blocks.proofs.Orders.{Sofar, scope_behind, next_fits, declares, stays}
-use Rattle.unwind_blocks.proofs.Branches.{guard_grows, flow_grows, objects_grow, tested_grows, done_if, done_as, done_at, done_fewer, done_way, breaks, continues, sofar_first, sofar_more, sofar_last}
+use Rattle.unwind_blocks.proofs.Branches.{grows_adds, grows_then, guard_grows, flow_grows, objects_grow, tested_grows, done_if, done_as, done_at, done_block, done_fewer, done_way, unwound_at, breaks, continues, sofar_first, sofar_more, sofar_last}
+use Rattle.unwind_blocks.proofs.Turns.{LoopLeft, left_first, left_more, left_over, done_loop, inner_of, fits_heads, fits_turns, fits_last, last_simple, turn_made}
+use Rattle.unwind_blocks.specs.Blocks.{IsUnwound, calls_in}
+use Rattle.unwind_blocks.specs.Loops.{FitsTurn, IsPart, test_in, first_part}
 use Rattle.unwind_blocks.proofs.blocks.+blocks.Goals as goal
 
 pub block-loop-s-init : goal.block-loop-s-init
@@ -33,7 +37,7 @@ block-stmt-requires t c =
     let here : drop i items ≡ x ∷ drop (suc i) items = subst (λ j. drop i items ≡ x ∷ drop j items) k (drop_more items i x c.loop-s-test.true ∙ ap (λ y. y ∷ drop (i + 1) items) (sym c.s-item.is)) in
     let d : Scope = scope_behind c.requires.scope (take i items) in
     let fits : FitsStmt d x.node = next_fits items i x c.requires.scope here c.requires.fits in
-    (grind (the_lemmas, arith, common_steps), record { scope = d; program = c.requires.program; fits = fits; objects = c.loop-s.invariant.objects; guard = c.loop-s.invariant.flow Next })
+    (grind (the_lemmas, arith, common_steps), record { well = c.requires.well; scope = d; program = c.requires.program; fits = fits; objects = c.loop-s.invariant.objects; guard = c.loop-s.invariant.flow Next })
 
 pub block-merged-requires-clause-first : goal.block-merged-requires-clause-first
 block-merged-requires-clause-first t c =
@@ -80,7 +84,7 @@ optional-returns-in-None t c =
     let a = c.args.at.now in
     let k = setting_of a in
     λ d inside fits.
-    done_as a c.args.net.now c.args.net.now c.args.state.now c.args.state.now c.args.guard c.only.result d.locals d.locals (λ calls. goes Next) (λ calls. after_option k calls c.args.other.now) (λ calls. ap (after_option k calls) (sym c.in-None.is))
+    done_as a c.args.net.now c.args.net.now c.args.state.now c.args.state.now c.args.guard c.only.result d.locals d.locals (goes Next) (after_option k (calls_in a) c.args.other.now) (ap (after_option k (calls_in a)) (sym c.in-None.is))
     (done_way a c.args.net.now c.args.state.now Next c.args.guard c.only.result d.locals (stays a d.locals) c.len.ensures.proper c.requires.objects c.requires.guard c.only.ensures)
 
 pub optional-returns-in_ok-f-in-Some : goal.optional-returns-in_ok-f-in-Some
@@ -90,13 +94,13 @@ optional-returns-in_ok-f-in-Some t c =
     let got = c.get.result.now in
     let is : c.args.other.now ≡ Some got = c.in-Some.is ∙ ap Some (sym c.get.ensures) in
     λ d inside fits.
-    done_as a c.args.net.now c.stmt.new.net c.args.state.now c.stmt.new.state c.args.guard c.in_ok-f-in-Some.f d.locals d.locals (λ calls. after k calls got.place got.node) (λ calls. after_option k calls c.args.other.now) (λ calls. ap (after_option k calls) (sym is))
-    (done_fewer a c.args.net.now c.stmt.new.net c.args.state.now c.stmt.new.state c.args.guard c.in_ok-f-in-Some.f d.locals (declared_behind got.node d.locals) (λ calls. after k calls got.place got.node) (declares got.node d.locals)
+    done_as a c.args.net.now c.stmt.new.net c.args.state.now c.stmt.new.state c.args.guard c.in_ok-f-in-Some.f d.locals d.locals (after k (calls_in a) got.place got.node) (after_option k (calls_in a) c.args.other.now) (ap (after_option k (calls_in a)) (sym is))
+    (done_fewer a c.args.net.now c.stmt.new.net c.args.state.now c.stmt.new.state c.args.guard c.in_ok-f-in-Some.f d.locals (declared_behind got.node d.locals) (after k (calls_in a) got.place got.node) (declares got.node d.locals)
     (c.in_ok-f-in-Some.ensures d inside (subst (FitsOptional d) is fits)))
 
 pub stmt-block-requires : goal.stmt-block-requires
 stmt-block-requires t c =
-    (grind (the_lemmas, arith, common_steps), record { scope = c.requires.scope; program = c.requires.program; fits = fits-block c.requires.scope c.args.s.now.node c.in-Block.items c.as_slice.result.now c.in-Block.is c.as_slice.ensures c.requires.fits; objects = c.requires.objects; guard = c.requires.guard })
+    (grind (the_lemmas, arith, common_steps), record { well = c.requires.well; scope = c.requires.scope; program = c.requires.program; fits = fits-block c.requires.scope c.args.s.now.node c.in-Block.items c.as_slice.result.now c.in-Block.is c.as_slice.ensures c.requires.fits; objects = c.requires.objects; guard = c.requires.guard })
 
 pub stmt-tested-requires : goal.stmt-tested-requires
 stmt-tested-requires t c =
@@ -105,12 +109,12 @@ stmt-tested-requires t c =
 pub stmt-stmt-requires : goal.stmt-stmt-requires
 stmt-stmt-requires t c =
     let grows = tested_grows c.args.at.now c.args.net.now c.tested.new.net c.args.state.now c.get.result.now c.args.guard c.in_ok-sides-in-If.sides c.in_ok-sides-in-If.ensures in
-    (grind (the_lemmas, arith, common_steps), record { scope = c.requires.scope; program = c.requires.program; fits = (fits-if c.requires.scope c.args.s.now.node c.in-If.e c.get.result.now c.in-If.body c.get-in-If.result.now c.in-If.other c.in-If.is c.get.ensures c.get-in-If.ensures c.requires.fits).1; objects = objects_grow c.args.at.now c.args.net.now.terms c.tested.new.net.terms c.args.state.now.objects grows c.requires.objects; guard = c.in_ok-sides-in-If.ensures.split.has_taken })
+    (grind (the_lemmas, arith, common_steps), record { well = c.requires.well; scope = c.requires.scope; program = c.requires.program; fits = (fits-if c.requires.scope c.args.s.now.node c.in-If.e c.get.result.now c.in-If.body c.get-in-If.result.now c.in-If.other c.in-If.is c.get.ensures c.get-in-If.ensures c.requires.fits).1; objects = objects_grow c.args.at.now c.args.net.now.terms c.tested.new.net.terms c.args.state.now.objects grows c.requires.objects; guard = c.in_ok-sides-in-If.ensures.split.has_taken })
 
 pub stmt-optional-requires : goal.stmt-optional-requires
 stmt-optional-requires t c =
     let a = c.in_ok-a-in-If.ensures c.requires.scope c.requires.program (fits-if c.requires.scope c.args.s.now.node c.in-If.e c.get.result.now c.in-If.body c.get-in-If.result.now c.in-If.other c.in-If.is c.get.ensures c.get-in-If.ensures c.requires.fits).1 in
-    (grind (the_lemmas, arith, common_steps), record { scope = c.requires.scope; program = c.requires.program; fits = (fits-if c.requires.scope c.args.s.now.node c.in-If.e c.get.result.now c.in-If.body c.get-in-If.result.now c.in-If.other c.in-If.is c.get.ensures c.get-in-If.ensures c.requires.fits).2; objects = a.objects; guard = guard_grows c.tested.new.net.terms c.stmt.new.net.terms c.in_ok-sides-in-If.sides.other a.grows c.in_ok-sides-in-If.ensures.split.has_other })
+    (grind (the_lemmas, arith, common_steps), record { well = c.requires.well; scope = c.requires.scope; program = c.requires.program; fits = (fits-if c.requires.scope c.args.s.now.node c.in-If.e c.get.result.now c.in-If.body c.get-in-If.result.now c.in-If.other c.in-If.is c.get.ensures c.get-in-If.ensures c.requires.fits).2; objects = a.objects; guard = guard_grows c.tested.new.net.terms c.stmt.new.net.terms c.in_ok-sides-in-If.sides.other a.grows c.in_ok-sides-in-If.ensures.split.has_other })
 
 pub stmt-joined-requires-clause-first : goal.stmt-joined-requires-clause-first
 stmt-joined-requires-clause-first t c =
@@ -129,9 +133,10 @@ stmt-returns-in_ok-f-in-Block t c =
     let k = setting_of at in
     let s = c.args.s.now in
     λ d inside fits.
-    done_at at c.args.net.now c.block.new.net c.args.state.now c.block.new.state c.args.guard c.in_ok-f-in-Block.f d.locals s (Block c.in-Block.items) (λ calls. after_items k calls c.as_slice.result.now) c.in-Block.is refl
-    (λ calls. sym (after-block k calls s.place s.node c.in-Block.items c.as_slice.result.now c.in-Block.is c.as_slice.ensures))
-    (c.in_ok-f-in-Block.ensures d inside (fits-block d s.node c.in-Block.items c.as_slice.result.now c.in-Block.is c.as_slice.ensures fits))
+    unwound_at at c.args.net.now c.block.new.net c.args.state.now c.block.new.state c.args.guard c.in_ok-f-in-Block.f d.locals s (Block c.in-Block.items) (after_items k (calls_in at) c.as_slice.result.now) c.in-Block.is refl
+    (sym (after-block k (calls_in at) s.place s.node c.in-Block.items c.as_slice.result.now c.in-Block.is c.as_slice.ensures))
+    (done_block at c.args.net.now c.block.new.net c.args.state.now c.block.new.state c.as_slice.result.now c.args.guard c.in_ok-f-in-Block.f d.locals (after_items k (calls_in at) c.as_slice.result.now)
+    (c.in_ok-f-in-Block.ensures d inside (fits-block d s.node c.in-Block.items c.as_slice.result.now c.in-Block.is c.as_slice.ensures fits)))
 
 pub stmt-returns-in_ok-f-in-Store : goal.stmt-returns-in_ok-f-in-Store
 stmt-returns-in_ok-f-in-Store t c =
@@ -151,10 +156,10 @@ stmt-returns-in_ok-f-in-If t c =
     λ d inside fits.
     let body = c.get-in-If.result.now in
     let F = (fits-if d c.args.s.now.node c.in-If.e c.get.result.now c.in-If.body c.get-in-If.result.now c.in-If.other c.in-If.is c.get.ensures c.get-in-If.ensures fits) in
-    done_at at c.args.net.now c.joined.new.net c.args.state.now c.optional.new.state c.args.guard c.in_ok-f-in-If.f d.locals s (If c.in-If.e c.in-If.body c.in-If.other) _ c.in-If.is refl
-    (λ calls. sym (after-if k calls s.place s.node c.in-If.e c.get.result.now c.in-If.body body c.in-If.other c.in-If.is c.get.ensures c.get-in-If.ensures))
+    unwound_at at c.args.net.now c.joined.new.net c.args.state.now c.optional.new.state c.args.guard c.in_ok-f-in-If.f d.locals s (If c.in-If.e c.in-If.body c.in-If.other) _ c.in-If.is refl
+    (sym (after-if k (calls_in at) s.place s.node c.in-If.e c.get.result.now c.in-If.body body c.in-If.other c.in-If.is c.get.ensures c.get-in-If.ensures))
     (done_if at c.args.net.now c.tested.new.net c.stmt.new.net c.optional.new.net c.joined.new.net c.args.state.now c.stmt.new.state c.optional.new.state c.get.result.now c.args.guard c.in_ok-sides-in-If.sides c.in_ok-a-in-If.a c.in_ok-b-in-If.b c.in_ok-f-in-If.f d
-    (declared_behind body.node d.locals) d.locals (λ calls. after k calls body.place body.node) (λ calls. after_option k calls c.in-If.other) c.in_ok-sides-in-If.ensures (c.in_ok-a-in-If.ensures d inside F.1) (c.in_ok-b-in-If.ensures d inside F.2) c.in_ok-f-in-If.ensures
+    (declared_behind body.node d.locals) d.locals (after k (calls_in at) body.place body.node) (after_option k (calls_in at) c.in-If.other) c.in_ok-sides-in-If.ensures (c.in_ok-a-in-If.ensures d inside F.1) (c.in_ok-b-in-If.ensures d inside F.2) c.in_ok-f-in-If.ensures
     (declares body.node d.locals) (λ j h. h) inside F.0)
 
 pub stmt-returns-in-Break : goal.stmt-returns-in-Break
@@ -163,7 +168,7 @@ stmt-returns-in-Break t c =
     let k = setting_of at in
     let s = c.args.s.now in
     λ d inside fits.
-    done_at at c.args.net.now c.args.net.now c.args.state.now c.args.state.now c.args.guard c.only.result d.locals s Break (λ calls. goes Breaking) c.in-Break.is refl (λ calls. ap (after k calls s.place) (sym c.in-Break.is))
+    unwound_at at c.args.net.now c.args.net.now c.args.state.now c.args.state.now c.args.guard c.only.result d.locals s Break (goes Breaking) c.in-Break.is refl (ap (after k (calls_in at) s.place) (sym c.in-Break.is))
     (done_way at c.args.net.now c.args.state.now Breaking c.args.guard c.only.result d.locals (breaks at d.locals) c.len.ensures.proper c.requires.objects c.requires.guard c.only.ensures)
 
 pub stmt-returns-in-Continue : goal.stmt-returns-in-Continue
@@ -172,7 +177,7 @@ stmt-returns-in-Continue t c =
     let k = setting_of at in
     let s = c.args.s.now in
     λ d inside fits.
-    done_at at c.args.net.now c.args.net.now c.args.state.now c.args.state.now c.args.guard c.only-in-Continue.result d.locals s Continue (λ calls. goes Continuing) c.in-Continue.is refl (λ calls. ap (after k calls s.place) (sym c.in-Continue.is))
+    unwound_at at c.args.net.now c.args.net.now c.args.state.now c.args.state.now c.args.guard c.only-in-Continue.result d.locals s Continue (goes Continuing) c.in-Continue.is refl (ap (after k (calls_in at) s.place) (sym c.in-Continue.is))
     (done_way at c.args.net.now c.args.state.now Continuing c.args.guard c.only-in-Continue.result d.locals (continues at d.locals) c.len.ensures.proper c.requires.objects c.requires.guard c.only-in-Continue.ensures)
 
 pub stmt-returns-in_ok-f-in-Assert : goal.stmt-returns-in_ok-f-in-Assert
@@ -196,3 +201,141 @@ stmt-returns-in_ok-f-in-Assume t c =
     let e_is = c.get-in-Assume.ensures in
     done_at at c.args.net.now c.assume.new.net c.args.state.now c.args.state.now c.args.guard c.in_ok-f-in-Assume.f d.locals s (Assume c.in-Assume.e) (λ calls. assumed_as k c.get-in-Assume.result.now) c.in-Assume.is refl
     (λ calls. ap (λ (e : TExpr). assumed_as k e) e_is ∙ ap (after k calls s.place) (sym c.in-Assume.is)) (c.in_ok-f-in-Assume.ensures d inside (subst (FitsExpr d) (sym e_is) F))
+
+pub stmt-repeat-requires : goal.stmt-repeat-requires
+stmt-repeat-requires t c =
+    (grind (the_lemmas, arith, common_steps), record { well = c.requires.well; scope = c.requires.scope; program = c.requires.program; fits = subst (FitsStmt c.requires.scope) c.in-Loop.is c.requires.fits; objects = c.requires.objects; guard = c.requires.guard })
+
+pub stmt-returns-in_ok-f-in-Loop : goal.stmt-returns-in_ok-f-in-Loop
+stmt-returns-in_ok-f-in-Loop t c =
+    let at = c.args.at.now in
+    let k = setting_of at in
+    let s = c.args.s.now in
+    λ d inside fits.
+    unwound_at at c.args.net.now c.repeat.new.net c.args.state.now c.repeat.new.state c.args.guard c.in_ok-f-in-Loop.f d.locals s (Loop c.in-Loop.one) (after_loop k (calls_in at) c.in-Loop.one) c.in-Loop.is refl (ap (after k (calls_in at) s.place) (sym c.in-Loop.is))
+    (c.in_ok-f-in-Loop.ensures d inside (subst (FitsStmt d) c.in-Loop.is fits))
+
+-- a loop
+
+pub repeat-block-requires : goal.repeat-block-requires
+repeat-block-requires t c =
+    (grind (the_lemmas, arith, common_steps), record { well = c.requires.well; scope = c.requires.scope; program = c.requires.program; fits = fits_heads c.requires.scope c.args.one.now c.as_slice.result.now c.as_slice.ensures c.requires.fits; objects = c.requires.objects; guard = c.requires.guard })
+
+pub repeat-turns-requires : goal.repeat-turns-requires
+repeat-turns-requires t c =
+    let d = c.requires.scope in
+    let l = c.args.one.now in
+    let A = c.in_ok-heads.ensures d c.requires.program (fits_heads d l c.as_slice.result.now c.as_slice.ensures c.requires.fits) in
+    (grind (the_lemmas, arith, common_steps), record { well = c.requires.well; scope = inner_of d l; program = c.requires.program; fits = fits_turns d l c.requires.fits; objects = A.objects; guard = A.flow Next })
+
+pub repeat-merged-requires-clause-first : goal.repeat-merged-requires-clause-first
+repeat-merged-requires-clause-first t c =
+    let d = c.requires.scope in
+    let l = c.args.one.now in
+    let A = c.in_ok-heads.ensures d c.requires.program (fits_heads d l c.as_slice.result.now c.as_slice.ensures c.requires.fits) in
+    let B = c.in_ok-rest.ensures (inner_of d l) c.requires.program (fits_turns d l c.requires.fits) in
+    flow_grows c.block.new.net.terms c.turns.new.net.terms c.in_ok-heads.heads B.grows A.flow
+
+pub repeat-merged-requires-clause-second : goal.repeat-merged-requires-clause-second
+repeat-merged-requires-clause-second t c =
+    (c.in_ok-rest.ensures (inner_of c.requires.scope c.args.one.now) c.requires.program (fits_turns c.requires.scope c.args.one.now c.requires.fits)).flow
+
+pub repeat-returns : goal.repeat-returns
+repeat-returns t c =
+    λ d inside fits.
+    done_loop c.args.at.now c.args.net.now c.block.new.net c.turns.new.net c.merged.new.net c.args.state.now c.block.new.state c.turns.new.state c.args.one.now c.as_slice.result.now c.args.guard c.in_ok-heads.heads c.in_ok-rest.rest c.in_ok-f.f d inside fits c.as_slice.ensures
+    c.in_ok-heads.ensures c.in_ok-rest.ensures c.in_ok-f.ensures
+
+pub turns-begun-requires : goal.turns-begun-requires
+turns-begun-requires t c = record { well = c.requires.well; scope = c.requires.scope; program = c.requires.program; fits = c.requires.fits.cond; objects = c.requires.objects; guard = c.requires.guard }
+
+pub turns-loop-turn-init : goal.turns-loop-turn-init
+turns-loop-turn-init t c =
+    let h = c.limit-limit.ensures in
+    left_first c.args.at.now c.args.net.now c.begun.new.net c.args.state.now c.args.state.now c.args.one.now c.args.guard c.in_ok-ways.ways (c.limit-limit.result - 0) c.requires.scope c.requires.program c.requires.fits (omega (arith, h)) c.in_ok-ways.ensures
+
+pub turns-round-requires : goal.turns-round-requires
+turns-round-requires t c =
+    (grind (the_lemmas, arith, common_steps), record { well = c.requires.well; scope = c.requires.scope; program = c.requires.program; fits = c.requires.fits; objects = c.loop-turn.invariant.objects; guard = c.loop-turn.invariant.flow Next })
+
+pub turns-merged-requires-clause-first : goal.turns-merged-requires-clause-first
+turns-merged-requires-clause-first t c =
+    flow_grows c.loop-turn.net.terms c.round.new.net.terms c.loop-turn.ways (c.in_ok-f.ensures c.requires.scope c.requires.program c.requires.fits (goes Next)).grows c.loop-turn.invariant.flow
+
+pub turns-merged-requires-clause-second : goal.turns-merged-requires-clause-second
+turns-merged-requires-clause-second t c = (c.in_ok-f.ensures c.requires.scope c.requires.program c.requires.fits (goes Next)).flow
+
+pub turns-loop-turn-preserved : goal.turns-loop-turn-preserved
+turns-loop-turn-preserved t c =
+    let m = c.limit-limit.result - c.loop-turn.turn in
+    let n = c.limit-limit.result - (c.loop-turn.turn + 1) in
+    let more : m ≡ suc n = let h = c.loop-turn-test.true in omega (arith, h) in
+    left_more c.args.at.now c.args.net.now c.loop-turn.net c.round.new.net c.merged.new.net c.args.state.now c.loop-turn.state c.round.new.state c.args.one.now c.args.guard c.loop-turn.ways c.in_ok-f.f c.in_ok-ways-2.ways m n c.requires.scope c.requires.program c.requires.fits more
+    c.loop-turn.invariant c.in_ok-f.ensures c.in_ok-ways-2.ensures
+
+pub turns-returns : goal.turns-returns
+turns-returns t c =
+    let m = c.limit-limit.result - c.loop-turn.turn in
+    let over : m ≡ 0 = let h = c.loop-turn-test.false in omega (arith, h) in
+    λ d inside fits. left_over c.args.at.now c.args.net.now c.loop-turn.net c.ended.new.net c.args.state.now c.loop-turn.state c.args.one.now c.args.guard c.loop-turn.ways c.in_ok-f-2.f m d inside fits over c.loop-turn.invariant c.in_ok-f-2.ensures
+
+-- a turn of a loop
+
+pub round-stmt-requires : goal.round-stmt-requires
+round-stmt-requires t c =
+    (grind (the_lemmas, arith, common_steps), record { well = c.requires.well; scope = c.requires.scope; program = c.requires.program; fits = subst (λ (x : TStmt). FitsStmt c.requires.scope x.node) (sym c.get.ensures) c.requires.fits.body; objects = c.requires.objects; guard = c.requires.guard })
+
+pub round-turned-requires : goal.round-turned-requires
+round-turned-requires t c =
+    (c.in_ok-a.ensures c.requires.scope c.requires.program (subst (λ (x : TStmt). FitsStmt c.requires.scope x.node) (sym c.get.ensures) c.requires.fits.body)).flow
+
+pub round-optional-requires : goal.round-optional-requires
+round-optional-requires t c =
+    let A = c.in_ok-a.ensures c.requires.scope c.requires.program (subst (λ (x : TStmt). FitsStmt c.requires.scope x.node) (sym c.get.ensures) c.requires.fits.body) in
+    let T = c.in_ok-body.ensures in (
+      grind (the_lemmas, arith, common_steps),
+      record {
+        well = c.requires.well;
+        scope = c.requires.scope;
+        program = c.requires.program;
+        fits = fits_last c.requires.scope (out-TLoop c.args.one.now).step c.requires.fits.last;
+        objects = objects_grow c.args.at.now c.stmt.new.net.terms c.turned.new.net.terms c.stmt.new.state.objects (grows_adds c.stmt.new.net c.turned.new.net T.adds) A.objects;
+        guard = T.has Next;
+      },
+    )
+
+pub round-test-requires : goal.round-test-requires
+round-test-requires t c =
+    let S = c.in_ok-last.ensures c.requires.scope c.requires.program (fits_last c.requires.scope (out-TLoop c.args.one.now).step c.requires.fits.last) in
+    record { well = c.requires.well; scope = c.requires.scope; program = c.requires.program; fits = c.requires.fits.cond; objects = S.objects; guard = S.flow Next }
+
+pub round-merged-requires-clause-first : goal.round-merged-requires-clause-first
+round-merged-requires-clause-first t c =
+    let S = c.in_ok-last.ensures c.requires.scope c.requires.program (fits_last c.requires.scope (out-TLoop c.args.one.now).step c.requires.fits.last) in
+    flow_grows c.optional.new.net.terms c.test.new.net.terms c.in_ok-last.last (c.in_ok-next.ensures c.requires.scope c.requires.program c.requires.fits.cond (goes Next)).grows S.flow
+
+pub round-merged-requires-clause-second : goal.round-merged-requires-clause-second
+round-merged-requires-clause-second t c = (c.in_ok-next.ensures c.requires.scope c.requires.program c.requires.fits.cond (goes Next)).flow
+
+pub round-merged-requires-2-clause-first : goal.round-merged-requires-2-clause-first
+round-merged-requires-2-clause-first t c =
+    let S = c.in_ok-last.ensures c.requires.scope c.requires.program (fits_last c.requires.scope (out-TLoop c.args.one.now).step c.requires.fits.last) in
+    let T = c.in_ok-next.ensures c.requires.scope c.requires.program c.requires.fits.cond (goes Next) in
+    flow_grows c.turned.new.net.terms c.merged.new.net.terms c.in_ok-body.body
+    (grows_then c.turned.new.net.terms c.optional.new.net.terms c.merged.new.net.terms S.grows (grows_then c.optional.new.net.terms c.test.new.net.terms c.merged.new.net.terms T.grows (grows_adds c.test.new.net c.merged.new.net c.in_ok-rest.ensures.adds))) c.in_ok-body.ensures.has
+
+pub round-merged-requires-2-clause-second : goal.round-merged-requires-2-clause-second
+round-merged-requires-2-clause-second t c = c.in_ok-rest.ensures.has
+
+pub round-returns : goal.round-returns
+round-returns t c =
+    let a = c.args.at.now in
+    let k = setting_of a in
+    let l = c.args.one.now in
+    λ d inside fits.
+    let body = c.get.result.now in
+    let A = c.in_ok-a.ensures d inside (subst (λ (x : TStmt). FitsStmt d x.node) (sym c.get.ensures) fits.body) in
+    turn_made a c.args.net.now c.stmt.new.net c.turned.new.net c.optional.new.net c.test.new.net c.merged.new.net c.merged-2.new.net c.args.state.now c.stmt.new.state c.optional.new.state l c.args.guard c.in_ok-a.a c.in_ok-body.body c.in_ok-last.last c.in_ok-next.next c.in_ok-rest.rest c.in_ok-f.f d.locals
+    (declared_behind body.node d.locals) (declares body.node d.locals) (last_simple d (out-TLoop l).step fits.last)
+    (subst (λ (x : TStmt). IsUnwound a c.args.net.now c.stmt.new.net c.args.state.now c.stmt.new.state c.args.guard c.in_ok-a.a d.locals (declared_behind body.node d.locals) (after k (calls_in a) x.place x.node)) c.get.ensures A) c.in_ok-body.ensures
+    (c.in_ok-last.ensures d inside (fits_last d (out-TLoop l).step fits.last)) (c.in_ok-next.ensures d inside fits.cond) c.in_ok-rest.ensures c.in_ok-f.ensures

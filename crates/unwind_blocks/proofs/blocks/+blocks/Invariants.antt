@@ -1,5 +1,29 @@
+use Rattle.std.proofs.Common.{◌-◌, ◌+◌, ◌*◌}
+use Rattle.unwind_blocks.proofs.Turns.{LoopLeft}
 use Rattle.unwind_blocks.proofs.Orders.{Sofar}
 use Rattle.unwind_blocks.proofs.blocks.+blocks.Given as goal
 
+abbrev pub decreases-stmt : goal.decreases-stmt
+decreases-stmt l = 3 * goal.size-stmt l + 1
+
+abbrev pub decreases-optional : goal.decreases-optional
+decreases-optional l = 3 * goal.size-optional l + 2
+
+abbrev pub decreases-block : goal.decreases-block
+decreases-block l = 3 * goal.size-block l + 2
+
+abbrev pub decreases-round : goal.decreases-round
+decreases-round l = 3 * goal.size-round l + 1
+
+abbrev pub decreases-turns : goal.decreases-turns
+decreases-turns l = 3 * goal.size-turns l + 2
+
+abbrev pub decreases-repeat : goal.decreases-repeat
+decreases-repeat l = 3 * goal.size-repeat l + 3
+
 abbrev pub invariant-block-loop-s : goal.invariant-block-loop-s
 invariant-block-loop-s l = Sofar l.at l.fn.net l.net l.fn.state l.state l.items l.s-index l.fn.guard l.ways
+
+-- so many turns are left
+abbrev pub invariant-turns-loop-turn : goal.invariant-turns-loop-turn
+invariant-turns-loop-turn l = LoopLeft l.at l.fn.net l.net l.fn.state l.state l.one l.fn.guard l.ways (l.limit - l.turn)
