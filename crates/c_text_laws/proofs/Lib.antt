@@ -1,0 +1,11 @@
+pub mod Values
+pub mod Takes
+pub mod Rows
+pub mod Spelled
+pub mod Characters
+pub mod Tokens
+pub mod Expressions
+pub mod Declarations
+pub mod Statements
+pub mod Files
+pub mod Built
