@@ -1,0 +1,3 @@
+mod Parts
+mod Statements
+pub mod Runs
