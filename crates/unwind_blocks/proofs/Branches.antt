@@ -39,9 +39,9 @@ use Rattle.unwind_state.proofs.Gates.{adds_built}
 use Rattle.unwind_state.proofs.Pieces.{isnt_zero, ask, branch}
 use Rattle.unwind_state.proofs.Stretches.{unwinds_as, added_before, begun}
 use Rattle.unwind_simple.specs.declared.simple.Activation.{Activation}
-use Rattle.unwind_simple.specs.Simple.{setting_of, is_in, IsValued, IsDone}
-use Rattle.unwind_simple.proofs.Statements.{zero_number}
-use Rattle.unwind_blocks.specs.Blocks.{IsTested, IsStretch, IsUnwound, AreUnwound, behind_items, between, calls_in}
+use Rattle.unwind_simple.specs.Simple.{setting_of, calls_in, result_in, is_in, IsValued, IsDone}
+use Rattle.unwind_simple.proofs.Statements.{zero_number, grown_result}
+use Rattle.unwind_blocks.specs.Blocks.{IsTested, IsStretch, IsUnwound, AreUnwound, behind_items, between}
 use Rattle.unwind_blocks.proofs.Orders.{fixed, state, behind, fewer, out_of, stays, declares, items_declare, Sofar, left_first, left_more, left_none}
 
 -- what stays
@@ -140,13 +140,14 @@ module _ (a : Activation) where
       record {
         grows = grows_then n0.terms n3.terms n6.terms (tested_grows n0 n3 s0 e g sides T) (grows_then n3.terms n4.terms n6.terms A.grows (grows_then n4.terms n5.terms n6.terms B.grows (grows_adds n5 n6 J.adds)));
         objects = objects_grow n5.terms n6.terms s2.objects (grows_adds n5 n6 J.adds) B.objects;
+        result = λ h. grown_result a n5.terms n6.terms s2.result (grows_adds n5 n6 J.adds) (B.result (A.result (grown_result a n0.terms n3.terms s0.result (tested_grows n0 n3 s0 e g sides T) h)));
         flow = J.has;
         does = ask (fixed a) n0 T.n1 n6 s0 s2 e.ty (λ s. value_of (rows_in k s) e) K g t f (state a sc.locals) (behind a sc.locals) goes (T.valued.asks sc inside fits) D'';
       }
 
-  -- a statement that does one thing whatever calls do
-  pub unwound : (n0 n1 : Unrolled) (s0 s1 : State) (g : Guard) (f : Flow) (xs ys : List ℕ) (run : Calls → Onward) → IsDone a n0 n1 s0 s1 g f xs ys run → IsUnwound a n0 n1 s0 s1 g f xs ys (run (calls_in a))
-  unwound n0 n1 s0 s1 g f xs ys run D = record { grows = D.grows; objects = D.objects; flow = D.flow; does = D.does (calls_in a) }
+  -- a statement that has no others in it
+  pub unwound : (n0 n1 : Unrolled) (s0 s1 : State) (g : Guard) (f : Flow) (xs ys : List ℕ) (run : Onward) → IsDone a n0 n1 s0 s1 g f xs ys run → IsUnwound a n0 n1 s0 s1 g f xs ys run
+  unwound n0 n1 s0 s1 g f xs ys run D = record { grows = D.grows; objects = D.objects; result = D.result; flow = D.flow; does = D.does }
 
   -- the same run in other words
   pub done_as : (n0 n1 : Unrolled) (s0 s1 : State) (g : Guard) (f : Flow) (xs ys : List ℕ) (ra rb : Onward) → ra ≡ rb → IsUnwound a n0 n1 s0 s1 g f xs ys ra → IsUnwound a n0 n1 s0 s1 g f xs ys rb
@@ -160,17 +161,18 @@ module _ (a : Activation) where
       subst (λ (ys : List ℕ). IsUnwound a n0 n1 s0 s1 g f xs ys (after (setting_of a) (calls_in a) t.place t.node)) (sym (ap (λ (m : SNode). declared_behind m xs) is ∙ none))
       (done_as n0 n1 s0 s1 g f xs xs run (after (setting_of a) (calls_in a) t.place t.node) e D)
 
-  -- the same of one that does one thing whatever calls do
-  pub done_at : (n0 n1 : Unrolled) (s0 s1 : State) (g : Guard) (f : Flow) (xs : List ℕ) (t : TStmt) (node : SNode) (run : Calls → Onward) → t.node ≡ node → declared_behind node xs ≡ xs →
-      ((calls : Calls) → run calls ≡ after (setting_of a) calls t.place t.node) → IsDone a n0 n1 s0 s1 g f xs xs run →
+  -- the same of one that has no others in it
+  pub done_at : (n0 n1 : Unrolled) (s0 s1 : State) (g : Guard) (f : Flow) (xs : List ℕ) (t : TStmt) (node : SNode) (run : Onward) → t.node ≡ node → declared_behind node xs ≡ xs →
+      run ≡ after (setting_of a) (calls_in a) t.place t.node → IsDone a n0 n1 s0 s1 g f xs xs run →
       IsUnwound a n0 n1 s0 s1 g f xs (declared_behind t.node xs) (after (setting_of a) (calls_in a) t.place t.node)
-  done_at n0 n1 s0 s1 g f xs t node run is none e D = unwound_at n0 n1 s0 s1 g f xs t node (run (calls_in a)) is none (e (calls_in a)) (unwound n0 n1 s0 s1 g f xs xs run D)
+  done_at n0 n1 s0 s1 g f xs t node run is none e D = unwound_at n0 n1 s0 s1 g f xs t node run is none e (unwound n0 n1 s0 s1 g f xs xs run D)
 
   -- fewer locals are asked for behind a statement
   pub done_fewer : (n0 n1 : Unrolled) (s0 s1 : State) (g : Guard) (f : Flow) (xs ys : List ℕ) (run : Onward) → ((j : ℕ) → Contains xs j → Contains ys j) → IsUnwound a n0 n1 s0 s1 g f xs ys run → IsUnwound a n0 n1 s0 s1 g f xs xs run
   done_fewer n0 n1 s0 s1 g f xs ys run sub D = record {
     grows = D.grows;
     objects = D.objects;
+    result = D.result;
     flow = D.flow;
     does = unwinds_as (fixed a) n0 n1 s0 s1 (λ v. run) (λ v. run) g f (state a xs) (state a xs) (behind a ys) (behind a xs) goes goes (λ x s h. h) (λ v r s h c. refl) (fewer a xs ys sub) (λ w s c. refl) D.does;
   }
@@ -180,7 +182,7 @@ module _ (a : Activation) where
       IsStretch a n n s s g f (state a xs) (behind a xs) (out way) out
   stretch_way n s way g f xs out post proper objects has is =
       subst (λ (h : Flow). IsStretch a n n s s g h (state a xs) (behind a xs) (out way) out) (sym is)
-      (record { grows = grows_none n.terms proper; objects = objects; flow = only_has n.terms way g has; does = begun (fixed a) n s way g (state a xs) (behind a xs) out post })
+      (record { grows = grows_none n.terms proper; objects = objects; result = λ h. h; flow = only_has n.terms way g has; does = begun (fixed a) n s way g (state a xs) (behind a xs) out post })
 
   -- one way on, with nothing done
   pub done_way : (n : Unrolled) (s : State) (way : Way) (g : Guard) (f : Flow) (xs : List ℕ) → ((x : Image) (q : JointState) → state a xs x q → behind a xs way x q) → IsGraph n.terms → HasObjects a.pair.now.program n.terms s.objects → HasGuard n.terms g → f ≡ flow_at way g →
@@ -190,7 +192,7 @@ module _ (a : Activation) where
   -- statements of a list, so far
   pub sofar_first : (n : Unrolled) (s : State) (items : List TStmt) (g : Guard) (f : Flow) → IsGraph n.terms → HasObjects a.pair.now.program n.terms s.objects → HasGuard n.terms g → f ≡ flow_at Next g → Sofar a n n s s items 0 g f
   sofar_first n s items g f proper objects has is =
-      subst (Sofar a n n s s items 0 g) (sym is) (record { grows = grows_none n.terms proper; objects = objects; flow = only_has n.terms Next g has; does = λ c inside fits. left_first a n s items g c })
+      subst (Sofar a n n s s items 0 g) (sym is) (record { grows = grows_none n.terms proper; objects = objects; result = λ h. h; flow = only_has n.terms Next g has; does = λ c inside fits. left_first a n s items g c })
 
   pub sofar_more : (n0 n1 n2 n3 : Unrolled) (s0 s1 s2 : State) (items : List TStmt) (i : ℕ) (x : TStmt) (g : Guard) (ways f ways' : Flow) → drop i items ≡ x ∷ drop (suc i) items → (d : Scope) → is_in a d → FitsStmt d x.node → Sofar a n0 n1 s0 s1 items i g ways →
       ((d : Scope) → is_in a d → FitsStmt d x.node → IsUnwound a n1 n2 s1 s2 ways.next f d.locals (declared_behind x.node d.locals) (after (setting_of a) (calls_in a) x.place x.node)) →
@@ -200,6 +202,7 @@ module _ (a : Activation) where
       record {
         grows = grows_then n0.terms n1.terms n3.terms S.grows (grows_then n1.terms n2.terms n3.terms one.grows (grows_adds n2 n3 E.adds));
         objects = objects_grow n2.terms n3.terms s2.objects (grows_adds n2 n3 E.adds) one.objects;
+        result = λ h. grown_result a n2.terms n3.terms s2.result (grows_adds n2 n3 E.adds) (one.result (S.result h));
         flow = E.has;
         does = λ c q h. left_more a n0 n1 n2 n3 s0 s1 s2 items i x g ways f ways' c here q h (S.does c q h) D E;
       }
@@ -209,6 +212,7 @@ module _ (a : Activation) where
   sofar_last n0 n1 s0 s1 items i g ways over S c inside fits = record {
     grows = S.grows;
     objects = S.objects;
+    result = S.result;
     flow = S.flow;
     does = left_none a n0 n1 s0 s1 items i g ways c over (S.does c inside fits);
   }
@@ -218,6 +222,7 @@ module _ (a : Activation) where
   done_block n0 n1 s0 s1 items g f xs run D = record {
     grows = D.grows;
     objects = D.objects;
+    result = D.result;
     flow = D.flow;
     does = unwinds_as (fixed a) n0 n1 s0 s1 (λ v. run) (λ v. run) g f (state a xs) (state a xs) (between a xs (behind_items items xs)) (behind a xs) goes goes (λ x s h. h) (λ v r s h c. refl)
         (out_of a xs (behind_items items xs) (items_declare items xs)) (λ w s c. refl) D.does;
@@ -228,7 +233,7 @@ module _ (a : Activation) where
   returned_nothing (Some t) x q = (tt, tt)
 
   pub breaks : (xs : List ℕ) (x : Image) (q : JointState) → state a xs x q → behind a xs Breaking x q
-  breaks xs x q h = record { state = h; returned = (returned_nothing (result_of (slice_get a.pair.now.program.functions a.here)) x q).0 }
+  breaks xs x q h = record { state = h; returned = (returned_nothing (result_in a) x q).0 }
 
   pub continues : (xs : List ℕ) (x : Image) (q : JointState) → state a xs x q → behind a xs Continuing x q
-  continues xs x q h = record { state = h; returned = (returned_nothing (result_of (slice_get a.pair.now.program.functions a.here)) x q).1 }
+  continues xs x q h = record { state = h; returned = (returned_nothing (result_in a) x q).1 }

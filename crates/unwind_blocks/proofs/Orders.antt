@@ -12,7 +12,7 @@ use Rattle.joint_ir.specs.declared.way.Way.TheVariants.{Next, Breaking, Continui
 use Rattle.joint_ir.specs.Effects.{Effect, Told, nothing, Goes, Stops, TooFew, Onward, preceded, then_do}
 use Rattle.joint_ir.specs.States.{JointState}
 use Rattle.joint_ir.specs.Statements.{after}
-use Rattle.joint_ir.specs.Steps.{Calls, result_of}
+use Rattle.joint_ir.specs.Steps.{Calls}
 use Rattle.joint_ir.specs.WellFormed.{Scope, FitsStmt, with_scope_locals, declared_behind}
 use Rattle.joint_lists.specs.Lists.{after_items, FitsItems}
 use Rattle.unrolled.specs.declared.Unrolled.{Unrolled}
@@ -24,11 +24,11 @@ use Rattle.unwind_state.specs.declared.state.State.{State}
 use Rattle.unwind_state.specs.Guards.{HasFlow, flow_at, IsFlow, bits_of, merge_of}
 use Rattle.unwind_state.specs.Images.{Image, IsState, IsSettled, HasReturned, IsBehind}
 use Rattle.unwind_state.specs.Unwinding.{Grows, Unwinds}
-use Rattle.unwind_state.specs.Writing.{HasObjects}
+use Rattle.unwind_state.specs.Writing.{HasObjects, HasResult}
 use Rattle.unwind_state.proofs.Stretches.{unwinds_as, unwinds_mapped, chain, begun}
 use Rattle.unwind_simple.specs.declared.simple.Activation.{Activation}
-use Rattle.unwind_simple.specs.Simple.{setting_of, is_in}
-use Rattle.unwind_blocks.specs.Blocks.{IsUnwound, behind_items, between, calls_in}
+use Rattle.unwind_simple.specs.Simple.{setting_of, calls_in, result_in, is_in}
+use Rattle.unwind_blocks.specs.Blocks.{IsUnwound, behind_items, between}
 
 -- how a run goes on behind the first of some statements
 abbrev pub rest_out : Onward → Way → Onward
@@ -111,7 +111,7 @@ module _ (a : Activation) where
   state visible = IsState a.pair.now visible
 
   abbrev pub behind : List ℕ → Way → Image → JointState → Type 0
-  behind visible = IsBehind a.pair.now visible (result_of (slice_get a.pair.now.program.functions a.here))
+  behind visible = IsBehind a.pair.now visible (result_in a)
 
   -- fewer locals
   pub fewer : (few many : List ℕ) → ((j : ℕ) → Contains few j → Contains many j) → (way : Way) (x : Image) (s : JointState) → behind many way x s → behind few way x s
@@ -155,7 +155,7 @@ module _ (a : Activation) where
   nothing_returned (Some t) x s = tt
 
   pub stays : (visible : List ℕ) (x : Image) (s : JointState) → state visible x s → behind visible Next x s
-  stays visible x s h = record { state = h; returned = nothing_returned (result_of (slice_get a.pair.now.program.functions a.here)) x s }
+  stays visible x s h = record { state = h; returned = nothing_returned (result_in a) x s }
 
   -- what calls do
   abbrev pub calls : Calls
@@ -206,6 +206,7 @@ module _ (a : Activation) where
 pub record Sofar (a : Activation) (n0 n : Unrolled) (s0 s : State) (items : List TStmt) (i : ℕ) (g : Guard) (ways : Flow) : Type 0 where
   pub grows : Grows n0.terms n.terms
   pub objects : HasObjects a.pair.now.program n.terms s.objects
+  pub result : HasResult (result_in a) n0.terms s0.result → HasResult (result_in a) n.terms s.result
   pub flow : HasFlow n.terms ways
   pub does : (c : Scope) → is_in a c → FitsItems c items → LeftOver a n0 n s0 s items i g ways c
 

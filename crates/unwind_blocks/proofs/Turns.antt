@@ -45,13 +45,14 @@ use Rattle.unwind_state.specs.declared.state.State.{State}
 use Rattle.unwind_state.specs.Guards.{HasGuard, HasFlow, Adds, IsFlow, flow_at, bit_at, bits_of, merge_of, turned_of, gathered_of, AreSides}
 use Rattle.unwind_state.specs.Images.{Image, look, HasReturned}
 use Rattle.unwind_state.specs.Unwinding.{Grows, Unwinds, IsIdle, IsPushed}
-use Rattle.unwind_state.specs.Writing.{HasObjects}
+use Rattle.unwind_state.specs.Writing.{HasObjects, HasResult}
 use Rattle.unwind_state.proofs.Gates.{adds_none, adds_built}
 use Rattle.unwind_state.proofs.Pieces.{ask, branch, broken_follows}
 use Rattle.unwind_state.proofs.Stretches.{unwinds_as, unwinds_mapped, relabelled, added_before, begun, chain}
 use Rattle.unwind_simple.specs.declared.simple.Activation.{Activation}
-use Rattle.unwind_simple.specs.Simple.{setting_of, is_in}
-use Rattle.unwind_blocks.specs.Blocks.{MayRun, IsTested, IsStretch, IsUnwound, AreUnwound, state_at, behind_at, behind_items, between, calls_in}
+use Rattle.unwind_simple.specs.Simple.{setting_of, calls_in, result_in, is_in, MayRun}
+use Rattle.unwind_simple.proofs.Statements.{grown_result}
+use Rattle.unwind_blocks.specs.Blocks.{IsTested, IsStretch, IsUnwound, AreUnwound, state_at, behind_at, behind_items, between}
 use Rattle.unwind_blocks.specs.Loops.{turn_out, IsPart, test_in, first_part, turn_of, turns_in, loop_in, FitsLast, FitsTurn, left_of, IsEnded}
 use Rattle.unwind_blocks.proofs.Orders.{fixed, fewer, out_of, stays, rest_out, then_after, then_outs, rest_goes, rest_leaves, scope_behind, declares, items_declare}
 use Rattle.unwind_blocks.proofs.Branches.{grows_then, grows_adds, flow_grows, objects_grow, tested_grows, by_value, breaks, stretch_way}
@@ -286,6 +287,7 @@ module _ (a : Activation) where
   stretch_chain n0 n1 n2 n3 s0 s1 s2 run g f1 f2 f before h1 h2 out1 out2 post m A B E = record {
     grows = grows_then n0.terms n1.terms n3.terms A.grows (grows_then n1.terms n2.terms n3.terms B.grows (grows_adds n2 n3 E.adds));
     objects = objects_grow a n2.terms n3.terms s2.objects (grows_adds n2 n3 E.adds) B.objects;
+    result = λ h. grown_result a n2.terms n3.terms s2.result (grows_adds n2 n3 E.adds) (B.result (A.result h));
     flow = E.has;
     does = chain (fixed a) n0 n1 n2 n3 s0 s1 s2 (λ v. run) g f1 f2 f before h1 h2 out1 out2 post m A.does B.does E;
   }
@@ -297,6 +299,7 @@ module _ (a : Activation) where
   stretch_as n0 n1 s0 s1 run run' g f before before' behind behind' out out' pre e post m A = record {
     grows = A.grows;
     objects = A.objects;
+    result = A.result;
     flow = A.flow;
     does = unwinds_as (fixed a) n0 n1 s0 s1 (λ v. run) (λ v. run') g f before before' behind behind' out out' pre (λ v r s h c. e s c) post m A.does;
   }
@@ -325,6 +328,7 @@ module _ (a : Activation) where
       record {
         grows = grows_then n0.terms n1.terms n2.terms A.grows (grows_adds n1 n2 T.adds);
         objects = objects_grow a n1.terms n2.terms s1.objects (grows_adds n1 n2 T.adds) A.objects;
+        result = λ h. grown_result a n1.terms n2.terms s1.result (grows_adds n1 n2 T.adds) (A.result h);
         flow = T.has;
         does = relabelled (fixed a) n0 n1 n2 s0 s1 (λ v s c. after_turn (body s c) go) g fa f (state_at a xs) (behind_at a ys) (behind_at a xs) (λ way s c. after_turn (goes way s c) go) (turn_out go) turned_way T.adds
             (λ v r way at w. T.ways v r w ∙ turn_same (bits_of v fa) (λ u. way_bit u way) at w ∙ turn_bits w way) (λ v r off w. T.ways v r w ∙ turn_same (bits_of v fa) (λ u. 0) off w ∙ turn_none w)
@@ -351,6 +355,7 @@ module _ (a : Activation) where
       record {
         grows = tested_grows a n0 n3 st e g sides T;
         objects = objects_grow a n0.terms n3.terms st.objects (tested_grows a n0 n3 st e g sides T) objects;
+        result = grown_result a n0.terms n3.terms st.result (tested_grows a n0 n3 st e g sides T);
         flow = has;
         does = ask (fixed a) n0 T.n1 n3 st st e.ty (λ s. value_of (rows_in k s) e) K g t f (state_at a xs) (behind_at a xs) (turn_out go) (T.valued.asks c inside fits) D'';
       }
@@ -405,7 +410,7 @@ module _ (a : Activation) where
       let pre : (x : Image) (s : JointState) → behind_at a xs Next x s → state_at a xs x s = λ x s h. h.state in
       let fall : AllFall step = option_falls (setting_of a) (calls_in a) (λ place f args. calls_fall a.pair.now a.bounds.now a.left a.standing.now place f args) (out-TLoop l).step simple in
       let S1 = falls_on (fixed a) n2 n3 s1 s2 step more fb.next fs (state_at a xs) (behind_at a xs) (behind_at a xs) (turn_out more) fall (λ x s h. h) (λ s c. refl) S.does in
-      let S2 : IsStretch a n2 n3 s1 s2 fb.next fs (state_at a xs) (behind_at a xs) rest (turn_out more) = record { grows = S.grows; objects = S.objects; flow = S.flow; does = S1 } in
+      let S2 : IsStretch a n2 n3 s1 s2 fb.next fs (state_at a xs) (behind_at a xs) rest (turn_out more) = record { grows = S.grows; objects = S.objects; result = S.result; flow = S.flow; does = S1 } in
       let S3 = stretch_as n2 n3 s1 s2 rest rest fb.next fs (state_at a xs) (behind_at a xs Next) (behind_at a xs) (behind_at a xs) (turn_out more) (turn_out more) pre (λ s c. refl) (λ w x s h. h) (λ w s c. refl) S2 in
       let T1 = stretch_as n3 n4 s2 s2 more more fs.next ft (state_at a xs) (behind_at a xs Next) (behind_at a xs) (behind_at a xs) (turn_out go) (turn_out go) pre (λ s c. refl) (λ w x s h. h) (λ w s c. refl) (T go) in
       let E = stretch_chain n2 n3 n4 n5 s1 s2 s2 rest fb.next fs ft fr (behind_at a xs Next) (behind_at a xs) (behind_at a xs) (turn_out more) (turn_out go) (λ w x s isnt h. h) (λ w s c isnt. turn_leaves more go w s c isnt) S3 T1 M1 in
@@ -433,12 +438,13 @@ module _ (a : Activation) where
       let B = refused (fixed a) n2 n3 s1 p ways.next E.unset (behind_at a xs Next) (behind_at a xs) (turn_out (goes Next)) E.pushed (λ v r. E.made.value v (E.pushed.grows.grown v r)) in
       let B' = added_before (fixed a) n1 n2 n3 s1 s1 (λ v s c. broken p c) ways.next nowhere (behind_at a xs Next) (behind_at a xs) (turn_out (goes Next)) built B in
       let grown : Grows n1.terms n3.terms = grows_then n1.terms n2.terms n3.terms (grows_adds n1 n2 built) E.pushed.grows in
-      let C : IsStretch a n1 n3 s1 s1 ways.next nowhere (behind_at a xs Next) (behind_at a xs) (turns_in a l 0) (turn_out (goes Next)) = record { grows = grown; objects = objects_grow a n1.terms n3.terms s1.objects grown A.objects; flow = nowhere_has n3.terms; does = B' } in
+      let C : IsStretch a n1 n3 s1 s1 ways.next nowhere (behind_at a xs Next) (behind_at a xs) (turns_in a l 0) (turn_out (goes Next)) = record { grows = grown; objects = objects_grow a n1.terms n3.terms s1.objects grown A.objects; result = grown_result a n1.terms n3.terms s1.result grown; flow = nowhere_has n3.terms; does = B' } in
       let D = stretch_chain n0 n1 n3 n3 s0 s1 s1 (loop_in a l) g ways nowhere (left_of ways) (state_at a xs) (behind_at a xs) (behind_at a xs) (turn_out (turns_in a l 0)) (turn_out (goes Next)) (λ w x s isnt h. h) (λ w s c isnt. turn_leaves (turns_in a l 0) (goes Next) w s c isnt)
       A C (record { adds = adds_none n3 grown.proper; has = left_has n3.terms ways (λ w. flow_grows n1.terms n3.terms ways grown A.flow w); ways = λ v r w. left_bits v ways w }) in
       record {
         grows = grows_then n0.terms n3.terms n4.terms D.grows (grows_adds n3 n4 E.flow.adds);
         objects = objects_grow a n3.terms n4.terms s1.objects (grows_adds n3 n4 E.flow.adds) D.objects;
+        result = λ h. grown_result a n3.terms n4.terms s1.result (grows_adds n3 n4 E.flow.adds) (D.result h);
         flow = E.flow.has;
         does = relabelled (fixed a) n0 n3 n4 s0 s1 (λ v. loop_in a l) g (left_of ways) f (state_at a xs) (behind_at a xs) (behind_at a xs) (turn_out (goes Next)) goes gathered_way E.flow.adds
             (λ v r way at w. E.flow.ways v r w ∙ gather_same (bits_of v (left_of ways)) (λ u. way_bit u way) at w ∙ gather_bits w way) (λ v r off w. E.flow.ways v r w ∙ gather_same (bits_of v (left_of ways)) (λ u. 0) off w ∙ gather_none w)
@@ -456,7 +462,7 @@ module _ (a : Activation) where
       let go : Onward = loop_in a l in
       let sub : (j : ℕ) → Contains xs j → Contains ys j = items_declare items xs in
       let M = unwinds_mapped (fixed a) (λ e. then_do e go) (then_after go) n0 n1 s0 s1 (λ v. heads) g fh (state_at a xs) (between a xs ys) goes A.does in
-      let M' : IsStretch a n0 n1 s0 s1 g fh (state_at a xs) (between a xs ys) (λ s c. then_do (heads s c) go) (λ way s c. then_do (goes way s c) go) = record { grows = A.grows; objects = A.objects; flow = A.flow; does = M } in
+      let M' : IsStretch a n0 n1 s0 s1 g fh (state_at a xs) (between a xs ys) (λ s c. then_do (heads s c) go) (λ way s c. then_do (goes way s c) go) = record { grows = A.grows; objects = A.objects; result = A.result; flow = A.flow; does = M } in
       let A' = stretch_as n0 n1 s0 s1 (λ s c. then_do (heads s c) go) (λ s c. then_do (heads s c) go) g fh (state_at a xs) (state_at a xs) (between a xs ys) (between a xs ys) (λ way s c. then_do (goes way s c) go) (rest_out go) (λ x s h. h) (λ s c. refl) (λ w x s h. h) (then_outs go) M' in
       let B' = stretch_as n1 n2 s1 s2 go go fh.next fl (state_at a ys) (between a xs ys Next) (behind_at a ys) (behind_at a xs) goes (rest_out (goes Next)) (λ x s h. h.state) (λ s c. refl) (fewer a xs ys sub) (λ way s c. sym (rest_goes way s c)) B in
       let C = stretch_chain n0 n1 n2 n3 s0 s1 s2 (λ s c. then_do (heads s c) go) g fh fl f (state_at a xs) (between a xs ys) (behind_at a xs) (rest_out go) (rest_out (goes Next)) (λ way x s isnt h. out_of a xs ys sub way x s h) (λ way s c isnt. rest_leaves go (goes Next) way s c isnt) A' B' E in
@@ -470,6 +476,7 @@ module _ (a : Activation) where
 pub record LoopLeft (a : Activation) (n0 n1 : Unrolled) (s0 s1 : State) (l : TLoop) (g : Guard) (ways : Flow) (n : ℕ) : Type 0 where
   pub grows : Grows n0.terms n1.terms
   pub objects : HasObjects a.pair.now.program n1.terms s1.objects
+  pub result : HasResult (result_in a) n0.terms s0.result → HasResult (result_in a) n1.terms s1.result
   pub flow : HasFlow n1.terms ways
   pub does : (c : Scope) → is_in a c → FitsTurn c l → TurnsLeft a n0 n1 s0 s1 l g ways c.locals n
 
@@ -480,7 +487,7 @@ module _ (a : Activation) where
       let left : (c : Scope) → is_in a c → FitsTurn c l → TurnsLeft a n0 n1 s0 s1 l g ways c.locals n = λ c q h. subst (TurnsLeft a n0 n1 s0 s1 l g ways c.locals) (sym is)
       (A c q h.cond (turns_in a l (limit_of a.bounds.now (out-TLoop l).unwind))) in
       let one = left d inside fits in
-      record { grows = one.grows; objects = one.objects; flow = one.flow; does = left }
+      record { grows = one.grows; objects = one.objects; result = one.result; flow = one.flow; does = left }
 
   pub left_more : (n0 n1 n2 n3 : Unrolled) (s0 s1 s2 : State) (l : TLoop) (g : Guard) (ways f ways' : Flow) (m n : ℕ) (d : Scope) → is_in a d → FitsTurn d l → m ≡ suc n → LoopLeft a n0 n1 s0 s1 l g ways m →
       ((c : Scope) → is_in a c → FitsTurn c l → IsPart a n1 n2 s1 s2 ways.next f c.locals (turn_of a l)) → IsFlow n2 n3 ways' (λ v way. merge_of way (bits_of v ways way) (bits_of v f way)) → LoopLeft a n0 n3 s0 s2 l g ways' n
@@ -488,7 +495,7 @@ module _ (a : Activation) where
       let left : (c : Scope) → is_in a c → FitsTurn c l → TurnsLeft a n0 n3 s0 s2 l g ways' c.locals n = λ c q h.
       turns_more a n0 n1 n2 n3 s0 s1 s2 l g ways f ways' c.locals n (subst (TurnsLeft a n0 n1 s0 s1 l g ways c.locals) is (S.does c q h)) (T c q h) E in
       let one = left d inside fits in
-      record { grows = one.grows; objects = one.objects; flow = one.flow; does = left }
+      record { grows = one.grows; objects = one.objects; result = one.result; flow = one.flow; does = left }
 
   pub left_over : (n0 n1 n4 : Unrolled) (s0 s1 : State) (l : TLoop) (g : Guard) (ways f : Flow) (n : ℕ) (c : Scope) → is_in a c → FitsTurn c l → n ≡ 0 → LoopLeft a n0 n1 s0 s1 l g ways n → IsEnded n1 n4 ways f (out-TLoop l).unwind →
       IsUnwound a n0 n4 s0 s1 g f c.locals c.locals (loop_in a l)

@@ -11,9 +11,7 @@ use Rattle.joint_ir.specs.declared.way.Way.{Way}
 use Rattle.joint_ir.specs.declared.way.Way.TheVariants.{Next, Breaking, Continuing, Returning}
 use Rattle.joint_ir.specs.Effects.{Onward}
 use Rattle.joint_ir.specs.States.{JointState}
-use Rattle.joint_ir.specs.Statements.{calls_at}
-use Rattle.joint_ir.specs.Steps.{Calls, result_of}
-use Rattle.joint_ir.specs.WellFormed.{Scope, IsWellFormed, FitsTarget, FitsInit, declared_behind}
+use Rattle.joint_ir.specs.WellFormed.{Scope, FitsTarget, FitsInit, declared_behind}
 use Rattle.sized_terms.specs.declared.SizedTerm.{SizedTerm}
 use Rattle.sized_terms.specs.Sized.{bits}
 use Rattle.unrolled.specs.declared.Unrolled.{Unrolled}
@@ -25,21 +23,11 @@ use Rattle.unwind_state.specs.declared.state.State.{State}
 use Rattle.unwind_state.specs.Guards.{HasGuard, HasFlow, Adds, AreSides}
 use Rattle.unwind_state.specs.Images.{Image, IsState, IsSettled, IsBehind}
 use Rattle.unwind_state.specs.Unwinding.{Grows, Unwinds}
-use Rattle.unwind_state.specs.Writing.{HasObjects}
+use Rattle.unwind_state.specs.Writing.{HasObjects, HasResult}
 use Rattle.unwind_simple.specs.declared.simple.Activation.{Activation}
-use Rattle.unwind_simple.specs.Simple.{is_in, IsValued, stored_type}
+use Rattle.unwind_simple.specs.Simple.{is_in, result_in, IsValued, stored_type}
 
--- what a part of a program needs: the pair is well-formed, the part fits somewhere in its program, all objects have terms, and
--- the guard is there
-pub record MayRun (a : Activation) (n : Unrolled) (s : State) (g : Guard) (Fits : Scope → Type 0) : Type 0 where
-  pub well : IsWellFormed a.pair.now
-  pub scope : Scope
-  pub program : is_in a scope
-  pub fits : Fits scope
-  pub objects : HasObjects a.pair.now.program n.terms s.objects
-  pub guard : HasGuard n.terms g
-
--- the same of a store
+-- what a store needs
 pub record MayPut (a : Activation) (n : Unrolled) (s : State) (target : TTarget) (init : TInit) (g : Guard) : Type 0 where
   pub scope : Scope
   pub program : is_in a scope
@@ -59,23 +47,21 @@ pub record IsTested (a : Activation) (n0 n3 : Unrolled) (s : State) (e : TExpr) 
   pub is : (v : Values) → Respects v n2.terms → bits v set ≡ bit (nat_lt 0 (bits v value))
   pub split : AreSides n2 n3 set g sides
 
--- what calls do in an activation
-abbrev pub calls_in : Activation → Calls
-calls_in a = calls_at a.pair.now a.bounds.now a.left a.standing.now
-
 -- words stand for a run's state, where these locals are declared
 abbrev pub state_at : Activation → List ℕ → Image → JointState → Type 0
 state_at a visible = IsState a.pair.now visible
 
 -- words stand for a run's state behind a part of a body, and for what its function returned
 abbrev pub behind_at : Activation → List ℕ → Way → Image → JointState → Type 0
-behind_at a visible = IsBehind a.pair.now visible (result_of (slice_get a.pair.now.program.functions a.here))
+behind_at a visible = IsBehind a.pair.now visible (result_in a)
 
--- A stretch was unwound: it does what a run does, all objects have terms again, and the guards of the ways on are there.
+-- A stretch was unwound: it does what a run does, all objects have terms again, so has the result if it had one, and the guards of
+-- the ways on are there.
 -- `before` and `behind` relate the words to the run's state; `out` says how the run goes on behind the stretch.
 pub record IsStretch (a : Activation) (n0 n1 : Unrolled) (s0 s1 : State) (g : Guard) (f : Flow) (before : Image → JointState → Type 0) (behind : Way → Image → JointState → Type 0) (run : Onward) (out : Way → Onward) : Type 0 where
   pub grows : Grows n0.terms n1.terms
   pub objects : HasObjects a.pair.now.program n1.terms s1.objects
+  pub result : HasResult (result_in a) n0.terms s0.result → HasResult (result_in a) n1.terms s1.result
   pub flow : HasFlow n1.terms f
   pub does : Unwinds (IsSettled a.pair.now) n0 n1 s0 s1 (λ v. run) g f before behind out
 

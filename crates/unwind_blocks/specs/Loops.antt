@@ -24,8 +24,8 @@ use Rattle.unwind_state.specs.declared.state.State.{State}
 use Rattle.unwind_state.specs.Guards.{IsFlow, bits_of, gathered_of}
 use Rattle.unwind_state.specs.Unwinding.{IsPushed}
 use Rattle.unwind_simple.specs.declared.simple.Activation.{Activation}
-use Rattle.unwind_simple.specs.Simple.{setting_of}
-use Rattle.unwind_blocks.specs.Blocks.{IsStretch, state_at, behind_at, calls_in}
+use Rattle.unwind_simple.specs.Simple.{calls_in, setting_of}
+use Rattle.unwind_blocks.specs.Blocks.{IsStretch, state_at, behind_at}
 
 -- how a run goes on behind a part of a loop: with what is left of the loop, or behind it
 abbrev pub turn_out : Onward → Way → Onward

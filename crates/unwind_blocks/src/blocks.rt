@@ -4,8 +4,8 @@ ghost use Rattle.std.specs.Prelude.{◌≡◌, IfOk};
 ghost use Rattle.joint_ir.specs.Statements.{after, after_loop};
 ghost use Rattle.joint_ir.specs.WellFormed.{Scope, FitsStmt, FitsLoop, declared_behind};
 ghost use Rattle.joint_lists.specs.Lists.{after_items, after_option, FitsItems, FitsOptional};
-ghost use Rattle.unwind_simple.specs.Simple.{is_in, setting_of};
-ghost use Rattle.unwind_blocks.specs.Blocks.{MayRun, IsUnwound, AreUnwound, behind_items, calls_in};
+ghost use Rattle.unwind_simple.specs.Simple.{MayRun, calls_in, is_in, setting_of};
+ghost use Rattle.unwind_blocks.specs.Blocks.{IsUnwound, AreUnwound, behind_items};
 ghost use Rattle.unwind_blocks.specs.Loops.{FitsTurn, IsPart, turn_of, loop_in};
 
 use crate::loops::{begun, ended, test};

@@ -4,9 +4,8 @@ ghost use Rattle.std.specs.Prelude.{◌≡◌, IfOk};
 ghost use Rattle.joint_ir.specs.declared.stmt.TLoop.{out-TLoop};
 ghost use Rattle.joint_ir.specs.Statements.{tested as tested_as};
 ghost use Rattle.joint_ir.specs.WellFormed.{Scope, FitsOption};
-ghost use Rattle.unwind_simple.specs.Simple.{is_in};
+ghost use Rattle.unwind_simple.specs.Simple.{MayRun, is_in};
 ghost use Rattle.unwind_state.specs.Guards.{HasFlow};
-ghost use Rattle.unwind_blocks.specs.Blocks.{MayRun};
 ghost use Rattle.unwind_blocks.specs.Loops.{IsPart, IsEnded, test_in, first_part};
 
 use crate::tests_of::tested;

@@ -3,7 +3,7 @@
 ghost use Rattle.std.specs.Prelude.{◌≡◌, IfOk, false};
 ghost use Rattle.joint_ir.specs.Steps.{store_effect};
 ghost use Rattle.joint_ir.specs.WellFormed.{Scope, FitsTarget, FitsInit};
-ghost use Rattle.unwind_simple.specs.Simple.{MayAsk, IsDone, is_in, setting_of, stored_type};
+ghost use Rattle.unwind_simple.specs.Simple.{MayAsk, IsDone, calls_in, is_in, setting_of, stored_type};
 ghost use Rattle.unwind_blocks.specs.Blocks.{IsTested, MayPut};
 
 use joint_ir::{TExpr, TInit, TTarget};
@@ -40,7 +40,7 @@ pub fn plain_store(
     guard: Guard,
 ) -> Result<Flow, AllocError>
     requires { MayPut at.now net.old state.old target.now init.now guard }
-    ensures { IfOk result (λ f. (c : Scope) → is_in at.now c → FitsTarget c target.now → FitsInit c false (stored_type at.now target.now) init.now → IsDone at.now net.old net.new state.old state.new guard f c.locals c.locals (λ calls. store_effect (setting_of at.now) calls target.now init.now)) }
+    ensures { IfOk result (λ f. (c : Scope) → is_in at.now c → FitsTarget c target.now → FitsInit c false (stored_type at.now target.now) init.now → IsDone at.now net.old net.new state.old state.new guard f c.locals c.locals (store_effect (setting_of at.now) (calls_in at.now) target.now init.now)) }
 {
     // The terms are a graph.
     let _ = net.terms.len();

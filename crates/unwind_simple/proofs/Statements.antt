@@ -48,12 +48,12 @@ use Rattle.unwind_state.specs.declared.state.State.{State}
 use Rattle.unwind_state.specs.Guards.{bit_at, HasGuard, HasFlow, flow_at, Adds}
 use Rattle.unwind_state.specs.Images.{Image, words, words_at, look, numbers, IsState, IsSettled, HasReturned, IsBehind}
 use Rattle.unwind_state.specs.Unwinding.{Grows, IsTerm, Gives, Asks, Unwinds, IsPushed, Changes}
-use Rattle.unwind_state.specs.Writing.{HasObjects, IsThere, IsPut, with_objects}
+use Rattle.unwind_state.specs.Writing.{HasObjects, HasResult, IsThere, IsPut, with_objects}
 use Rattle.unwind_state.proofs.Stretches.{unwinds_as}
 use Rattle.unwind_state.proofs.Pieces.{isnt_zero, ask, asserted, assumed, changed}
 use Rattle.unwind_state.proofs.Puts.{put_changes, put_has}
 use Rattle.unwind_simple.specs.declared.simple.Activation.{Activation}
-use Rattle.unwind_simple.specs.Simple.{setting_of, is_in, MayAsk, IsValued, stored_type, MayStore, IsDone, asserted_as, assumed_as}
+use Rattle.unwind_simple.specs.Simple.{setting_of, calls_in, result_in, is_in, MayAsk, IsValued, stored_type, MayStore, IsDone, asserted_as, assumed_as}
 
 -- what a number of a word says of the word
 
@@ -94,43 +94,43 @@ is_there c (Member i) vis b = vis
 is_there c BoundValue vis b = cc
 
 module _ (a : Activation) where
-  abbrev fixed : Image → Type 0
+  abbrev pub fixed : Image → Type 0
   fixed = IsSettled a.pair.now
 
-  abbrev state : List ℕ → Image → JointState → Type 0
+  abbrev pub state : List ℕ → Image → JointState → Type 0
   state visible = IsState a.pair.now visible
 
-  abbrev behind : List ℕ → Way → Image → JointState → Type 0
-  behind visible = IsBehind a.pair.now visible (result_of (slice_get a.pair.now.program.functions a.here))
+  abbrev pub behind : List ℕ → Way → Image → JointState → Type 0
+  behind visible = IsBehind a.pair.now visible (result_in a)
 
   -- behind a statement that returns nothing
-  stays : (visible : List ℕ) (x : Image) (s : JointState) → state visible x s → behind visible Next x s
-  stays visible x s h = record { state = h; returned = nothing_returned (result_of (slice_get a.pair.now.program.functions a.here)) }
+  pub stays : (visible : List ℕ) (x : Image) (s : JointState) → state visible x s → behind visible Next x s
+  stays visible x s h = record { state = h; returned = nothing_returned (result_in a) }
     where
       nothing_returned : (t : Option IntType) → HasReturned t Next x s
       nothing_returned None = tt
       nothing_returned (Some t) = tt
 
-  there_in : (c : Scope) (slot : Slot) → is_in a c → IsVisible c slot → is_bound slot ≡ false → IsThere a.pair.now.program slot
-  there_in c slot p vis b = subst (λ (q : CProgram). IsThere q slot) p (is_there c slot vis b)
+  pub there_in : (c : Scope) (slot : Slot) → is_in a c → IsVisible c slot → is_bound slot ≡ false → IsThere a.pair.now.program slot
+  there_in c slot p vis b = subst (λ (q : CProgram). IsThere q slot) p.0 (is_there c slot vis b)
 
   pub objects_in : (c : Scope) (g : Graph) (o : Objects) → is_in a c → HasObjects a.pair.now.program g o → AreObjects c g o
   objects_in c g o p h = record {
-    count = λ slot vis b. h.count slot (there_in c slot p vis b) ∙ ap (λ (q : CProgram). element_count (slot_length q slot)) (sym p);
+    count = λ slot vis b. h.count slot (there_in c slot p vis b) ∙ ap (λ (q : CProgram). element_count (slot_length q slot)) (sym p.0);
     has = has;
   }
     where
       has : (slot : Slot) → IsVisible c slot → (k : ℕ) (t : TermId) → slice_get (terms_of o slot) k ≡ Some t → Has g (sized t (slot_type c.program slot).bits)
-      has (Global i) vis k t at = subst (λ (q : CProgram). Has g (sized t (slot_type q (Global i)).bits)) (sym p) (h.has (Global i) (there_in c (Global i) p vis refl) k t at)
-      has (Local i) vis k t at = subst (λ (q : CProgram). Has g (sized t (slot_type q (Local i)).bits)) (sym p) (h.has (Local i) (there_in c (Local i) p vis refl) k t at)
-      has (Member i) vis k t at = subst (λ (q : CProgram). Has g (sized t (slot_type q (Member i)).bits)) (sym p) (h.has (Member i) (there_in c (Member i) p vis refl) k t at)
+      has (Global i) vis k t at = subst (λ (q : CProgram). Has g (sized t (slot_type q (Global i)).bits)) (sym p.0) (h.has (Global i) (there_in c (Global i) p vis refl) k t at)
+      has (Local i) vis k t at = subst (λ (q : CProgram). Has g (sized t (slot_type q (Local i)).bits)) (sym p.0) (h.has (Local i) (there_in c (Local i) p vis refl) k t at)
+      has (Member i) vis k t at = subst (λ (q : CProgram). Has g (sized t (slot_type q (Member i)).bits)) (sym p.0) (h.has (Member i) (there_in c (Member i) p vis refl) k t at)
       has BoundValue vis k t at = cc
 
-  stands : (c : Scope) (v : Values) (st : State) (s : JointState) → is_in a c → state c.locals (look v st) s → StandFor c a.bounds.now.frames st.objects v (rows_in (setting_of a) s)
+  pub stands : (c : Scope) (v : Values) (st : State) (s : JointState) → is_in a c → state c.locals (look v st) s → StandFor c a.bounds.now.frames st.objects v (rows_in (setting_of a) s)
   stands c v st s p h = record { objects = objects; bound = refl }
     where
       ty : (slot : Slot) → slot_type c.program slot ≡ slot_type a.pair.now.program slot
-      ty slot = ap (λ (q : CProgram). slot_type q slot) p
+      ty slot = ap (λ (q : CProgram). slot_type q slot) p.0
 
       objects : (slot : Slot) → IsVisible c slot → is_bound slot ≡ false → numbers_of (number (slot_type c.program slot).signed (slot_type c.program slot).bits) v (terms_of st.objects slot) ≡ rows_in (setting_of a) s slot
       objects (Global i) vis b = row_numbers v st.objects.globals.items i _ _ (ty (Global i)) ∙ h.globals i
@@ -177,27 +177,35 @@ module _ (a : Activation) where
   grown_guard n0 n1 Always G h = tt
   grown_guard n0 n1 (When t) G h = (G.kept t h.0, h.1)
 
-  grown_objects : (n0 n1 : Unrolled) (o : Objects) → Grows n0.terms n1.terms → HasObjects a.pair.now.program n0.terms o → HasObjects a.pair.now.program n1.terms o
+  pub grown_objects : (n0 n1 : Unrolled) (o : Objects) → Grows n0.terms n1.terms → HasObjects a.pair.now.program n0.terms o → HasObjects a.pair.now.program n1.terms o
   grown_objects n0 n1 o G h = record { count = h.count; has = λ slot there k u at. G.kept (sized u (slot_type a.pair.now.program slot).bits) (h.has slot there k u at) }
 
-  grows_then : (g h i : Graph) → Grows g h → Grows h i → Grows g i
+  pub grown_result : (g h : Graph) (x : SizedTerm) → Grows g h → HasResult (result_in a) g x → HasResult (result_in a) h x
+  grown_result g h x G = grown (result_in a)
+    where
+      grown : (t : Option IntType) → HasResult t g x → HasResult t h x
+      grown None p = tt
+      grown (Some t) p = (G.kept x p.0, p.1)
+
+  pub grows_then : (g h i : Graph) → Grows g h → Grows h i → Grows g i
   grows_then g h i p q = record { grown = λ v r. p.grown v (q.grown v r); kept = λ x k. q.kept x (p.kept x k); proper = q.proper }
 
-  next_flow : (g : Graph) (guard : Guard) → HasGuard g guard → HasFlow g (flow_at Next guard)
+  pub next_flow : (g : Graph) (guard : Guard) → HasGuard g guard → HasFlow g (flow_at Next guard)
   next_flow g guard h Next = h
   next_flow g guard h Breaking = tt
   next_flow g guard h Continuing = tt
   next_flow g guard h Returning = tt
 
   pub done_assert : (n0 n1 n2 : Unrolled) (st : State) (e : TExpr) (p : PropId) (g : Guard) (t : SizedTerm) (f : Flow) → f ≡ flow_at Next g → MayAsk a n0 st e g → IsValued a n0 n1 st e g t → IsPushed n1 n2 g (Prop p.0 t.term) →
-      (c : Scope) → is_in a c → FitsExpr c e → IsDone a n0 n2 st st g f c.locals c.locals (λ calls. asserted_as (setting_of a) e p)
+      (c : Scope) → is_in a c → FitsExpr c e → IsDone a n0 n2 st st g f c.locals c.locals (asserted_as (setting_of a) e p)
   done_assert n0 n1 n2 st e p g t f is M V P c inside fits =
       let all = grows_then n0.terms n1.terms n2.terms V.grows P.grows in
-      subst (λ (f : Flow). IsDone a n0 n2 st st g f c.locals c.locals (λ calls. asserted_as (setting_of a) e p)) (sym is) (record {
+      subst (λ (f : Flow). IsDone a n0 n2 st st g f c.locals c.locals (asserted_as (setting_of a) e p)) (sym is) (record {
         grows = all;
         objects = grown_objects n0 n2 st.objects all M.objects;
+        result = grown_result n0.terms n2.terms st.result all;
         flow = next_flow n2.terms g (grown_guard n0 n2 g all M.guard);
-        does = λ calls.
+        does =
             let K : ℤ → Onward = λ n s c. if is_zero n then broken p c else Goes Next s nothing c in
             let B = asserted fixed n1 n2 st p g t.term (state c.locals) (behind c.locals) goes (stays c.locals) P in
             let B' = unwinds_as fixed n1 n2 st st (λ v s c. if isnt_zero (bits v t) then Goes Next s nothing c else broken p c) (λ v. K (number e.ty.signed e.ty.bits (bits v t))) g (flow_at Next g) (state c.locals) (state c.locals) (behind c.locals) (behind c.locals) goes goes
@@ -206,14 +214,15 @@ module _ (a : Activation) where
       })
 
   pub done_assume : (n0 n1 n2 : Unrolled) (st : State) (e : TExpr) (g : Guard) (t : SizedTerm) (f : Flow) → f ≡ flow_at Next g → MayAsk a n0 st e g → IsValued a n0 n1 st e g t → IsPushed n1 n2 g (CutAct t.term) →
-      (c : Scope) → is_in a c → FitsExpr c e → IsDone a n0 n2 st st g f c.locals c.locals (λ calls. assumed_as (setting_of a) e)
+      (c : Scope) → is_in a c → FitsExpr c e → IsDone a n0 n2 st st g f c.locals c.locals (assumed_as (setting_of a) e)
   done_assume n0 n1 n2 st e g t f is M V P c inside fits =
       let all = grows_then n0.terms n1.terms n2.terms V.grows P.grows in
-      subst (λ (f : Flow). IsDone a n0 n2 st st g f c.locals c.locals (λ calls. assumed_as (setting_of a) e)) (sym is) (record {
+      subst (λ (f : Flow). IsDone a n0 n2 st st g f c.locals c.locals (assumed_as (setting_of a) e)) (sym is) (record {
         grows = all;
         objects = grown_objects n0 n2 st.objects all M.objects;
+        result = grown_result n0.terms n2.terms st.result all;
         flow = next_flow n2.terms g (grown_guard n0 n2 g all M.guard);
-        does = λ calls.
+        does =
             let K : ℤ → Onward = λ n s c. if is_zero n then Stops Cut nothing c else Goes Next s nothing c in
             let B = assumed fixed n1 n2 st Cut refl g t.term (state c.locals) (behind c.locals) goes (stays c.locals) P in
             let B' = unwinds_as fixed n1 n2 st st (λ v s c. if isnt_zero (bits v t) then Goes Next s nothing c else Stops Cut nothing c) (λ v. K (number e.ty.signed e.ty.bits (bits v t))) g (flow_at Next g) (state c.locals) (state c.locals) (behind c.locals) (behind c.locals) goes goes
@@ -233,7 +242,7 @@ module _ (a : Activation) where
   plain_target n st target e g M =
       let shape : is_array M.scope.program target.slot ≡ false = M.fits_target.object.shape ∙ ap is_some M.plain in
       M.objects.count target.slot (there_in M.scope target.slot M.program M.fits_target.object.visible M.fits_target.stored)
-      ∙ one_element (slot_length a.pair.now.program target.slot) (ap (λ (q : CProgram). is_array q target.slot) (sym M.program) ∙ shape)
+      ∙ one_element (slot_length a.pair.now.program target.slot) (ap (λ (q : CProgram). is_array q target.slot) (sym M.program.0) ∙ shape)
 
   pub store_asks : (n : Unrolled) (st : State) (target : TTarget) (e : TExpr) (g : Guard) → MayStore a n st target e g → MayAsk a n st e g
   store_asks n st target e g M = record { scope = M.scope; program = M.program; fits = M.fits.1; objects = M.objects; guard = M.guard }
@@ -261,16 +270,17 @@ module _ (a : Activation) where
   store_is calls target e (Some i) q s c = let d : Some i ≡ None = q in cc
 
   pub done_store : (n0 n1 n2 : Unrolled) (st : State) (o : Objects) (target : TTarget) (e : TExpr) (g : Guard) (t : SizedTerm) (f : Flow) → f ≡ flow_at Next g → MayStore a n0 st target e g → IsValued a n0 n1 st e g t → IsPut n1 n2 st.objects o target.slot 0 t g →
-      (c : Scope) → is_in a c → FitsTarget c target → FitsAs c (stored_type a target) e → IsDone a n0 n2 st (with_objects st o) g f c.locals c.locals (λ calls. store_effect (setting_of a) calls target (Exprs (e ∷ [])))
+      (c : Scope) → is_in a c → FitsTarget c target → FitsAs c (stored_type a target) e → IsDone a n0 n2 st (with_objects st o) g f c.locals c.locals (store_effect (setting_of a) (calls_in a) target (Exprs (e ∷ [])))
   done_store n0 n1 n2 st o target e g t f is M V P c inside fits_target fits =
       let k = setting_of a in
       let ty = slot_type a.pair.now.program target.slot in
       let all : Grows n0.terms n2.terms = record { grown = λ v r. V.grows.grown v (P.adds.grown v r); kept = λ x h. P.adds.kept x (V.grows.kept x h); proper = P.adds.proper } in
-      subst (λ (f : Flow). IsDone a n0 n2 st (with_objects st o) g f c.locals c.locals (λ calls. store_effect k calls target (Exprs (e ∷ [])))) (sym is) (record {
+      subst (λ (f : Flow). IsDone a n0 n2 st (with_objects st o) g f c.locals c.locals (store_effect k (calls_in a) target (Exprs (e ∷ [])))) (sym is) (record {
         grows = all;
         objects = put_has a.pair.now.program n1 n2 st.objects o target.slot 0 t g (value_width n0 n1 st target e g t M V) P (grown_objects n0 n1 st.objects V.grows M.objects);
+        result = grown_result n0.terms n2.terms st.result all;
         flow = next_flow n2.terms g (grown_guard n0 n2 g all M.guard);
-        does = λ calls.
+        does =
             let next : ℤ → JointState → JointState = λ n s. with_store s (put s.store target.slot 0 n) in
             let K : ℤ → Onward = λ n s c. Goes Next (next n s) (seen (Stored target.place.line target.slot None n)) c in
             let n : Values → IntType → ℤ = λ v u. number u.signed u.bits (bits v t) in
@@ -279,6 +289,6 @@ module _ (a : Activation) where
             let B' = unwinds_as fixed n1 n2 st (with_objects st o) (λ v. K (n v ty)) (λ v. K (n v e.ty)) g (flow_at Next g) (state c.locals) (state c.locals) (behind c.locals) (behind c.locals) goes goes
             (λ x s h. h) (λ v r s h c. ap (λ u. K (n v u) s c) (sym fits.0)) (λ w x s h. h) (λ w s c. refl) B in
             let D = ask fixed n0 n1 n2 st (with_objects st o) e.ty (λ s. value_of (rows_in k s) e) K g t (flow_at Next g) (state c.locals) (behind c.locals) goes (V.asks c inside fits.1) B' in
-            unwinds_as fixed n0 n2 st (with_objects st o) (λ v s c. with_value (value_of (rows_in k s) e) c (λ m. K m s c)) (λ v. store_effect k calls target (Exprs (e ∷ []))) g (flow_at Next g) (state c.locals) (state c.locals) (behind c.locals) (behind c.locals) goes goes
-            (λ x s h. h) (λ v r s h c. sym (store_is calls target e target.index M.plain s c)) (λ w x s h. h) (λ w s c. refl) D;
+            unwinds_as fixed n0 n2 st (with_objects st o) (λ v s c. with_value (value_of (rows_in k s) e) c (λ m. K m s c)) (λ v. store_effect k (calls_in a) target (Exprs (e ∷ []))) g (flow_at Next g) (state c.locals) (state c.locals) (behind c.locals) (behind c.locals) goes goes
+            (λ x s h. h) (λ v r s h c. sym (store_is (calls_in a) target e target.index M.plain s c)) (λ w x s h. h) (λ w s c. refl) D;
       })

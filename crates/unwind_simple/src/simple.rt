@@ -4,7 +4,7 @@ ghost use Rattle.std.specs.Prelude.{◌≡◌, ◌∷◌, [], None, IfOk, false}
 ghost use Rattle.joint_ir.specs.declared.stmt.TInit.TheVariants.{Values};
 ghost use Rattle.joint_ir.specs.Steps.{store_effect};
 ghost use Rattle.joint_ir.specs.WellFormed.{Scope, FitsExpr, FitsTarget, FitsAs};
-ghost use Rattle.unwind_simple.specs.Simple.{MayAsk, MayStore, IsValued, IsDone, is_in, setting_of, asserted_as, assumed_as, stored_type};
+ghost use Rattle.unwind_simple.specs.Simple.{MayAsk, MayStore, IsValued, IsDone, calls_in, is_in, setting_of, asserted_as, assumed_as, stored_type};
 
 use expression_steps::expr;
 use joint_ir::program::PropId;
@@ -52,7 +52,7 @@ pub fn assert(
     guard: Guard,
 ) -> Result<Flow, AllocError>
     requires { MayAsk at.now net.old state.now e.now guard }
-    ensures { IfOk result (λ f. (c : Scope) → is_in at.now c → FitsExpr c e.now → IsDone at.now net.old net.new state.now state.now guard f c.locals c.locals (λ calls. asserted_as (setting_of at.now) e.now broken)) }
+    ensures { IfOk result (λ f. (c : Scope) → is_in at.now c → FitsExpr c e.now → IsDone at.now net.old net.new state.now state.now guard f c.locals c.locals (asserted_as (setting_of at.now) e.now broken)) }
 {
     let t = value(net, at, state, e, guard)?;
     prop(net, guard, broken, t)?;
@@ -68,7 +68,7 @@ pub fn assume(
     guard: Guard,
 ) -> Result<Flow, AllocError>
     requires { MayAsk at.now net.old state.now e.now guard }
-    ensures { IfOk result (λ f. (c : Scope) → is_in at.now c → FitsExpr c e.now → IsDone at.now net.old net.new state.now state.now guard f c.locals c.locals (λ calls. assumed_as (setting_of at.now) e.now)) }
+    ensures { IfOk result (λ f. (c : Scope) → is_in at.now c → FitsExpr c e.now → IsDone at.now net.old net.new state.now state.now guard f c.locals c.locals (assumed_as (setting_of at.now) e.now)) }
 {
     let t = value(net, at, state, e, guard)?;
     cut(net, guard, t)?;
@@ -85,7 +85,7 @@ pub fn store(
     guard: Guard,
 ) -> Result<Flow, AllocError>
     requires { MayStore at.now net.old state.old target.now e.now guard }
-    ensures { IfOk result (λ f. (c : Scope) → is_in at.now c → FitsTarget c target.now → FitsAs c (stored_type at.now target.now) e.now → IsDone at.now net.old net.new state.old state.new guard f c.locals c.locals (λ calls. store_effect (setting_of at.now) calls target.now (Values (e.now ∷ [])))) }
+    ensures { IfOk result (λ f. (c : Scope) → is_in at.now c → FitsTarget c target.now → FitsAs c (stored_type at.now target.now) e.now → IsDone at.now net.old net.new state.old state.new guard f c.locals c.locals (store_effect (setting_of at.now) (calls_in at.now) target.now (Values (e.now ∷ [])))) }
 {
     let t = value(net, at, state, e, guard)?;
     put(net, &mut state.objects, target.slot, 0, t, guard)?;

@@ -16,11 +16,12 @@ use Rattle.joint_lists.specs.Lists.{after_items, after_option, FitsItems, FitsOp
 use Rattle.joint_lists.proofs.Rows.{after-block, after-if}
 use Rattle.joint_lists.proofs.Shapes.{fits-block, fits-if}
 use Rattle.trails.specs.Following.{goes}
-use Rattle.unwind_simple.specs.Simple.{setting_of, asserted_as, assumed_as}
+use Rattle.unwind_simple.specs.Simple.{setting_of, calls_in, asserted_as, assumed_as}
+use Rattle.unwind_simple.proofs.Statements.{grown_result}
 use Rattle.unwind_blocks.proofs.Orders.{Sofar, scope_behind, next_fits, declares, stays}
 use Rattle.unwind_blocks.proofs.Branches.{grows_adds, grows_then, guard_grows, flow_grows, objects_grow, tested_grows, done_if, done_as, done_at, done_block, done_fewer, done_way, unwound_at, breaks, continues, sofar_first, sofar_more, sofar_last}
 use Rattle.unwind_blocks.proofs.Turns.{LoopLeft, left_first, left_more, left_over, done_loop, inner_of, fits_heads, fits_turns, fits_last, last_simple, turn_made}
-use Rattle.unwind_blocks.specs.Blocks.{IsUnwound, calls_in}
+use Rattle.unwind_blocks.specs.Blocks.{IsUnwound}
 use Rattle.unwind_blocks.specs.Loops.{FitsTurn, IsPart, test_in, first_part}
 use Rattle.unwind_blocks.proofs.blocks.+blocks.Goals as goal
 
@@ -37,7 +38,7 @@ block-stmt-requires t c =
     let here : drop i items ≡ x ∷ drop (suc i) items = subst (λ j. drop i items ≡ x ∷ drop j items) k (drop_more items i x c.loop-s-test.true ∙ ap (λ y. y ∷ drop (i + 1) items) (sym c.s-item.is)) in
     let d : Scope = scope_behind c.requires.scope (take i items) in
     let fits : FitsStmt d x.node = next_fits items i x c.requires.scope here c.requires.fits in
-    (grind (the_lemmas, arith, common_steps), record { well = c.requires.well; scope = d; program = c.requires.program; fits = fits; objects = c.loop-s.invariant.objects; guard = c.loop-s.invariant.flow Next })
+    (grind (the_lemmas, arith, common_steps), record { well = c.requires.well; scope = d; program = c.requires.program; fits = fits; objects = c.loop-s.invariant.objects; result = c.loop-s.invariant.result c.requires.result; guard = c.loop-s.invariant.flow Next })
 
 pub block-merged-requires-clause-first : goal.block-merged-requires-clause-first
 block-merged-requires-clause-first t c =
@@ -100,7 +101,7 @@ optional-returns-in_ok-f-in-Some t c =
 
 pub stmt-block-requires : goal.stmt-block-requires
 stmt-block-requires t c =
-    (grind (the_lemmas, arith, common_steps), record { well = c.requires.well; scope = c.requires.scope; program = c.requires.program; fits = fits-block c.requires.scope c.args.s.now.node c.in-Block.items c.as_slice.result.now c.in-Block.is c.as_slice.ensures c.requires.fits; objects = c.requires.objects; guard = c.requires.guard })
+    (grind (the_lemmas, arith, common_steps), record { well = c.requires.well; scope = c.requires.scope; program = c.requires.program; fits = fits-block c.requires.scope c.args.s.now.node c.in-Block.items c.as_slice.result.now c.in-Block.is c.as_slice.ensures c.requires.fits; objects = c.requires.objects; result = c.requires.result; guard = c.requires.guard })
 
 pub stmt-tested-requires : goal.stmt-tested-requires
 stmt-tested-requires t c =
@@ -109,12 +110,13 @@ stmt-tested-requires t c =
 pub stmt-stmt-requires : goal.stmt-stmt-requires
 stmt-stmt-requires t c =
     let grows = tested_grows c.args.at.now c.args.net.now c.tested.new.net c.args.state.now c.get.result.now c.args.guard c.in_ok-sides-in-If.sides c.in_ok-sides-in-If.ensures in
-    (grind (the_lemmas, arith, common_steps), record { well = c.requires.well; scope = c.requires.scope; program = c.requires.program; fits = (fits-if c.requires.scope c.args.s.now.node c.in-If.e c.get.result.now c.in-If.body c.get-in-If.result.now c.in-If.other c.in-If.is c.get.ensures c.get-in-If.ensures c.requires.fits).1; objects = objects_grow c.args.at.now c.args.net.now.terms c.tested.new.net.terms c.args.state.now.objects grows c.requires.objects; guard = c.in_ok-sides-in-If.ensures.split.has_taken })
+    (grind (the_lemmas, arith, common_steps), record { well = c.requires.well; scope = c.requires.scope; program = c.requires.program; fits = (fits-if c.requires.scope c.args.s.now.node c.in-If.e c.get.result.now c.in-If.body c.get-in-If.result.now c.in-If.other c.in-If.is c.get.ensures c.get-in-If.ensures c.requires.fits).1; objects = objects_grow c.args.at.now c.args.net.now.terms c.tested.new.net.terms c.args.state.now.objects grows c.requires.objects; result = grown_result c.args.at.now c.args.net.now.terms c.tested.new.net.terms c.args.state.now.result grows c.requires.result; guard = c.in_ok-sides-in-If.ensures.split.has_taken })
 
 pub stmt-optional-requires : goal.stmt-optional-requires
 stmt-optional-requires t c =
+    let grows = tested_grows c.args.at.now c.args.net.now c.tested.new.net c.args.state.now c.get.result.now c.args.guard c.in_ok-sides-in-If.sides c.in_ok-sides-in-If.ensures in
     let a = c.in_ok-a-in-If.ensures c.requires.scope c.requires.program (fits-if c.requires.scope c.args.s.now.node c.in-If.e c.get.result.now c.in-If.body c.get-in-If.result.now c.in-If.other c.in-If.is c.get.ensures c.get-in-If.ensures c.requires.fits).1 in
-    (grind (the_lemmas, arith, common_steps), record { well = c.requires.well; scope = c.requires.scope; program = c.requires.program; fits = (fits-if c.requires.scope c.args.s.now.node c.in-If.e c.get.result.now c.in-If.body c.get-in-If.result.now c.in-If.other c.in-If.is c.get.ensures c.get-in-If.ensures c.requires.fits).2; objects = a.objects; guard = guard_grows c.tested.new.net.terms c.stmt.new.net.terms c.in_ok-sides-in-If.sides.other a.grows c.in_ok-sides-in-If.ensures.split.has_other })
+    (grind (the_lemmas, arith, common_steps), record { well = c.requires.well; scope = c.requires.scope; program = c.requires.program; fits = (fits-if c.requires.scope c.args.s.now.node c.in-If.e c.get.result.now c.in-If.body c.get-in-If.result.now c.in-If.other c.in-If.is c.get.ensures c.get-in-If.ensures c.requires.fits).2; objects = a.objects; result = a.result (grown_result c.args.at.now c.args.net.now.terms c.tested.new.net.terms c.args.state.now.result grows c.requires.result); guard = guard_grows c.tested.new.net.terms c.stmt.new.net.terms c.in_ok-sides-in-If.sides.other a.grows c.in_ok-sides-in-If.ensures.split.has_other })
 
 pub stmt-joined-requires-clause-first : goal.stmt-joined-requires-clause-first
 stmt-joined-requires-clause-first t c =
@@ -145,8 +147,8 @@ stmt-returns-in_ok-f-in-Store t c =
     let s = c.args.s.now in
     λ d inside fits.
     let F = subst (FitsStmt d) c.in-Store.is fits in
-    done_at at c.args.net.now c.plain_store.new.net c.args.state.now c.plain_store.new.state c.args.guard c.in_ok-f-in-Store.f d.locals s (Store c.in-Store.target c.in-Store.init) (λ calls. store_effect k calls c.in-Store.target c.in-Store.init) c.in-Store.is refl
-    (λ calls. ap (after k calls s.place) (sym c.in-Store.is)) (c.in_ok-f-in-Store.ensures d inside F.0 (subst (λ (p : CProgram). FitsInit d false (slot_type p c.in-Store.target.slot) c.in-Store.init) inside F.1))
+    done_at at c.args.net.now c.plain_store.new.net c.args.state.now c.plain_store.new.state c.args.guard c.in_ok-f-in-Store.f d.locals s (Store c.in-Store.target c.in-Store.init) (store_effect k (calls_in at) c.in-Store.target c.in-Store.init) c.in-Store.is refl
+    (ap (after k (calls_in at) s.place) (sym c.in-Store.is)) (c.in_ok-f-in-Store.ensures d inside F.0 (subst (λ (p : CProgram). FitsInit d false (slot_type p c.in-Store.target.slot) c.in-Store.init) inside.0 F.1))
 
 pub stmt-returns-in_ok-f-in-If : goal.stmt-returns-in_ok-f-in-If
 stmt-returns-in_ok-f-in-If t c =
@@ -188,8 +190,8 @@ stmt-returns-in_ok-f-in-Assert t c =
     λ d inside fits.
     let F = subst (FitsStmt d) c.in-Assert.is fits in
     let e_is = c.get-in-Assert.ensures in
-    done_at at c.args.net.now c.assert.new.net c.args.state.now c.args.state.now c.args.guard c.in_ok-f-in-Assert.f d.locals s (Assert c.in-Assert.e c.in-Assert.broken) (λ calls. asserted_as k c.get-in-Assert.result.now c.in-Assert.broken) c.in-Assert.is refl
-    (λ calls. ap (λ (e : TExpr). asserted_as k e c.in-Assert.broken) e_is ∙ ap (after k calls s.place) (sym c.in-Assert.is)) (c.in_ok-f-in-Assert.ensures d inside (subst (FitsExpr d) (sym e_is) F.0))
+    done_at at c.args.net.now c.assert.new.net c.args.state.now c.args.state.now c.args.guard c.in_ok-f-in-Assert.f d.locals s (Assert c.in-Assert.e c.in-Assert.broken) (asserted_as k c.get-in-Assert.result.now c.in-Assert.broken) c.in-Assert.is refl
+    (ap (λ (e : TExpr). asserted_as k e c.in-Assert.broken) e_is ∙ ap (after k (calls_in at) s.place) (sym c.in-Assert.is)) (c.in_ok-f-in-Assert.ensures d inside (subst (FitsExpr d) (sym e_is) F.0))
 
 pub stmt-returns-in_ok-f-in-Assume : goal.stmt-returns-in_ok-f-in-Assume
 stmt-returns-in_ok-f-in-Assume t c =
@@ -199,12 +201,12 @@ stmt-returns-in_ok-f-in-Assume t c =
     λ d inside fits.
     let F = subst (FitsStmt d) c.in-Assume.is fits in
     let e_is = c.get-in-Assume.ensures in
-    done_at at c.args.net.now c.assume.new.net c.args.state.now c.args.state.now c.args.guard c.in_ok-f-in-Assume.f d.locals s (Assume c.in-Assume.e) (λ calls. assumed_as k c.get-in-Assume.result.now) c.in-Assume.is refl
-    (λ calls. ap (λ (e : TExpr). assumed_as k e) e_is ∙ ap (after k calls s.place) (sym c.in-Assume.is)) (c.in_ok-f-in-Assume.ensures d inside (subst (FitsExpr d) (sym e_is) F))
+    done_at at c.args.net.now c.assume.new.net c.args.state.now c.args.state.now c.args.guard c.in_ok-f-in-Assume.f d.locals s (Assume c.in-Assume.e) (assumed_as k c.get-in-Assume.result.now) c.in-Assume.is refl
+    (ap (λ (e : TExpr). assumed_as k e) e_is ∙ ap (after k (calls_in at) s.place) (sym c.in-Assume.is)) (c.in_ok-f-in-Assume.ensures d inside (subst (FitsExpr d) (sym e_is) F))
 
 pub stmt-repeat-requires : goal.stmt-repeat-requires
 stmt-repeat-requires t c =
-    (grind (the_lemmas, arith, common_steps), record { well = c.requires.well; scope = c.requires.scope; program = c.requires.program; fits = subst (FitsStmt c.requires.scope) c.in-Loop.is c.requires.fits; objects = c.requires.objects; guard = c.requires.guard })
+    (grind (the_lemmas, arith, common_steps), record { well = c.requires.well; scope = c.requires.scope; program = c.requires.program; fits = subst (FitsStmt c.requires.scope) c.in-Loop.is c.requires.fits; objects = c.requires.objects; result = c.requires.result; guard = c.requires.guard })
 
 pub stmt-returns-in_ok-f-in-Loop : goal.stmt-returns-in_ok-f-in-Loop
 stmt-returns-in_ok-f-in-Loop t c =
@@ -219,14 +221,14 @@ stmt-returns-in_ok-f-in-Loop t c =
 
 pub repeat-block-requires : goal.repeat-block-requires
 repeat-block-requires t c =
-    (grind (the_lemmas, arith, common_steps), record { well = c.requires.well; scope = c.requires.scope; program = c.requires.program; fits = fits_heads c.requires.scope c.args.one.now c.as_slice.result.now c.as_slice.ensures c.requires.fits; objects = c.requires.objects; guard = c.requires.guard })
+    (grind (the_lemmas, arith, common_steps), record { well = c.requires.well; scope = c.requires.scope; program = c.requires.program; fits = fits_heads c.requires.scope c.args.one.now c.as_slice.result.now c.as_slice.ensures c.requires.fits; objects = c.requires.objects; result = c.requires.result; guard = c.requires.guard })
 
 pub repeat-turns-requires : goal.repeat-turns-requires
 repeat-turns-requires t c =
     let d = c.requires.scope in
     let l = c.args.one.now in
     let A = c.in_ok-heads.ensures d c.requires.program (fits_heads d l c.as_slice.result.now c.as_slice.ensures c.requires.fits) in
-    (grind (the_lemmas, arith, common_steps), record { well = c.requires.well; scope = inner_of d l; program = c.requires.program; fits = fits_turns d l c.requires.fits; objects = A.objects; guard = A.flow Next })
+    (grind (the_lemmas, arith, common_steps), record { well = c.requires.well; scope = inner_of d l; program = c.requires.program; fits = fits_turns d l c.requires.fits; objects = A.objects; result = A.result c.requires.result; guard = A.flow Next })
 
 pub repeat-merged-requires-clause-first : goal.repeat-merged-requires-clause-first
 repeat-merged-requires-clause-first t c =
@@ -247,7 +249,7 @@ repeat-returns t c =
     c.in_ok-heads.ensures c.in_ok-rest.ensures c.in_ok-f.ensures
 
 pub turns-begun-requires : goal.turns-begun-requires
-turns-begun-requires t c = record { well = c.requires.well; scope = c.requires.scope; program = c.requires.program; fits = c.requires.fits.cond; objects = c.requires.objects; guard = c.requires.guard }
+turns-begun-requires t c = record { well = c.requires.well; scope = c.requires.scope; program = c.requires.program; fits = c.requires.fits.cond; objects = c.requires.objects; result = c.requires.result; guard = c.requires.guard }
 
 pub turns-loop-turn-init : goal.turns-loop-turn-init
 turns-loop-turn-init t c =
@@ -256,7 +258,7 @@ turns-loop-turn-init t c =
 
 pub turns-round-requires : goal.turns-round-requires
 turns-round-requires t c =
-    (grind (the_lemmas, arith, common_steps), record { well = c.requires.well; scope = c.requires.scope; program = c.requires.program; fits = c.requires.fits; objects = c.loop-turn.invariant.objects; guard = c.loop-turn.invariant.flow Next })
+    (grind (the_lemmas, arith, common_steps), record { well = c.requires.well; scope = c.requires.scope; program = c.requires.program; fits = c.requires.fits; objects = c.loop-turn.invariant.objects; result = c.loop-turn.invariant.result c.requires.result; guard = c.loop-turn.invariant.flow Next })
 
 pub turns-merged-requires-clause-first : goal.turns-merged-requires-clause-first
 turns-merged-requires-clause-first t c =
@@ -283,7 +285,7 @@ turns-returns t c =
 
 pub round-stmt-requires : goal.round-stmt-requires
 round-stmt-requires t c =
-    (grind (the_lemmas, arith, common_steps), record { well = c.requires.well; scope = c.requires.scope; program = c.requires.program; fits = subst (λ (x : TStmt). FitsStmt c.requires.scope x.node) (sym c.get.ensures) c.requires.fits.body; objects = c.requires.objects; guard = c.requires.guard })
+    (grind (the_lemmas, arith, common_steps), record { well = c.requires.well; scope = c.requires.scope; program = c.requires.program; fits = subst (λ (x : TStmt). FitsStmt c.requires.scope x.node) (sym c.get.ensures) c.requires.fits.body; objects = c.requires.objects; result = c.requires.result; guard = c.requires.guard })
 
 pub round-turned-requires : goal.round-turned-requires
 round-turned-requires t c =
@@ -300,14 +302,17 @@ round-optional-requires t c =
         program = c.requires.program;
         fits = fits_last c.requires.scope (out-TLoop c.args.one.now).step c.requires.fits.last;
         objects = objects_grow c.args.at.now c.stmt.new.net.terms c.turned.new.net.terms c.stmt.new.state.objects (grows_adds c.stmt.new.net c.turned.new.net T.adds) A.objects;
+        result = grown_result c.args.at.now c.stmt.new.net.terms c.turned.new.net.terms c.stmt.new.state.result (grows_adds c.stmt.new.net c.turned.new.net T.adds) (A.result c.requires.result);
         guard = T.has Next;
       },
     )
 
 pub round-test-requires : goal.round-test-requires
 round-test-requires t c =
+    let A = c.in_ok-a.ensures c.requires.scope c.requires.program (subst (λ (x : TStmt). FitsStmt c.requires.scope x.node) (sym c.get.ensures) c.requires.fits.body) in
+    let T = c.in_ok-body.ensures in
     let S = c.in_ok-last.ensures c.requires.scope c.requires.program (fits_last c.requires.scope (out-TLoop c.args.one.now).step c.requires.fits.last) in
-    record { well = c.requires.well; scope = c.requires.scope; program = c.requires.program; fits = c.requires.fits.cond; objects = S.objects; guard = S.flow Next }
+    record { well = c.requires.well; scope = c.requires.scope; program = c.requires.program; fits = c.requires.fits.cond; objects = S.objects; result = S.result (grown_result c.args.at.now c.stmt.new.net.terms c.turned.new.net.terms c.stmt.new.state.result (grows_adds c.stmt.new.net c.turned.new.net T.adds) (A.result c.requires.result)); guard = S.flow Next }
 
 pub round-merged-requires-clause-first : goal.round-merged-requires-clause-first
 round-merged-requires-clause-first t c =

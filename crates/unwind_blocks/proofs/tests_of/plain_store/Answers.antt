@@ -7,7 +7,7 @@ use Rattle.joint_ir.specs.declared.stmt.TInit.{TInit}
 use Rattle.joint_ir.specs.declared.stmt.TInit.TheVariants.{Values as Exprs}
 use Rattle.joint_ir.specs.Steps.{store_effect}
 use Rattle.joint_ir.specs.WellFormed.{FitsInit}
-use Rattle.unwind_simple.specs.Simple.{IsDone, setting_of, stored_type}
+use Rattle.unwind_simple.specs.Simple.{IsDone, calls_in, setting_of, stored_type}
 use Rattle.unwind_blocks.proofs.Branches.{one_init}
 use Rattle.unwind_blocks.proofs.tests_of.plain_store.Goals as goal
 
@@ -38,5 +38,5 @@ returns c =
     let is_es : es ≡ x ∷ [] = drop_more es 0 x (omega (arith, h)) ∙ ap (λ y. y ∷ drop 1 es) (sym c.index-es-0.is) ∙ ap (λ l. x ∷ l) (drop_of_length-le es short) in
     let is_init : c.args.init.now ≡ Exprs (x ∷ []) = c.in-Values.is ∙ ap Exprs (sym c.as_slice-es.ensures ∙ is_es) in
     λ d inside target init.
-    subst (λ (i : TInit). IsDone c.args.at.now c.args.net.now c.store.new.net c.args.state.now c.store.new.state c.args.guard c.in_ok-f.f d.locals d.locals (λ calls. store_effect (setting_of c.args.at.now) calls c.args.target.now i)) (sym is_init)
+    subst (λ (i : TInit). IsDone c.args.at.now c.args.net.now c.store.new.net c.args.state.now c.store.new.state c.args.guard c.in_ok-f.f d.locals d.locals (store_effect (setting_of c.args.at.now) (calls_in c.args.at.now) c.args.target.now i)) (sym is_init)
     (c.in_ok-f.ensures d inside target (one_init d (stored_type c.args.at.now c.args.target.now) c.args.init.now c.in-Values.es x c.in-Values.is (sym c.as_slice-es.ensures ∙ is_es) init))
