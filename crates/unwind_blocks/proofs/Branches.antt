@@ -1,28 +1,24 @@
 -- Blocks and branches, from what their parts promise.
-use Rattle.std.proofs.Common.{◌≡◌, ℕ, zero, suc, ◌+◌, ◌*◌, ◌<◌, Bool, true, false, List, [], ◌∷◌, ◌++◌, length, take, drop, refl, sym, ap, ◌∙◌, subst, arith}
-use Rattle.std.specs.Prelude.{ℤ, slice_get, Contains, Option, Some, None, bit_or, nat_lt, if◌then◌else◌}
+use Rattle.std.proofs.Common.{◌≡◌, ℕ, zero, suc, ◌*◌, ◌<◌, true, false, List, [], ◌∷◌, drop, refl, sym, ap, ◌∙◌, subst, arith}
+use Rattle.std.specs.Prelude.{ℤ, Contains, Option, Some, None, bit_or, nat_lt, if◌then◌else◌}
 use Rattle.std.proofs.lemmas.Bool.Decides.{nat_tests}
 use Rattle.bits_core.specs.Word.{number, bit, at_zero}
 use Rattle.word_eqs.specs.Graph.{Graph, IsGraph}
-use Rattle.word_eqs.specs.Meaning.{Values, Respects}
 use Rattle.joint_ir.specs.declared.ctype.IntType.{IntType}
 use Rattle.joint_ir.specs.declared.expr.TExpr.{TExpr}
 use Rattle.joint_ir.specs.declared.stmt.SNode.{SNode}
-use Rattle.joint_ir.specs.declared.stmt.TInit.{TInit}
-use Rattle.joint_ir.specs.declared.stmt.TInit.TheVariants.{Values as Exprs}
 use Rattle.joint_ir.specs.declared.stmt.TStmt.{TStmt}
-use Rattle.joint_ir.specs.declared.stmt.TTarget.{TTarget}
 use Rattle.joint_ir.specs.declared.way.Way.{Way}
 use Rattle.joint_ir.specs.declared.way.Way.TheVariants.{Next, Breaking, Continuing, Returning}
 use Rattle.joint_ir.specs.Effects.{Effect, Onward, with_value}
 use Rattle.joint_ir.specs.States.{JointState}
 use Rattle.joint_ir.specs.Statements.{after}
-use Rattle.joint_ir.specs.Steps.{Calls, rows_in, slot_type, result_of}
+use Rattle.joint_ir.specs.Steps.{rows_in, slot_type}
 use Rattle.joint_ir.specs.Values.{value_of, is_zero}
-use Rattle.joint_ir.specs.WellFormed.{Scope, FitsExpr, FitsStmt, FitsInit, FitsAs, declared_behind}
+use Rattle.joint_ir.specs.WellFormed.{Scope, FitsExpr, FitsStmt, declared_behind}
 use Rattle.joint_lists.specs.Lists.{after_items, FitsItems}
 use Rattle.sized_terms.specs.declared.SizedTerm.{SizedTerm}
-use Rattle.sized_terms.specs.Sized.{Has, IsMade, bits}
+use Rattle.sized_terms.specs.Sized.{IsMade, bits}
 use Rattle.unrolled.specs.declared.Objects.{Objects}
 use Rattle.unrolled.specs.declared.Unrolled.{Unrolled}
 use Rattle.trails.specs.Following.{goes}
@@ -32,8 +28,8 @@ use Rattle.unwind_state.specs.declared.state.Guard.TheVariants.{Never, Always, W
 use Rattle.unwind_state.specs.declared.state.Sides.{Sides}
 use Rattle.unwind_state.specs.declared.state.State.{State}
 use Rattle.unwind_state.specs.Guards.{HasGuard, HasFlow, guard_for, flow_at, Adds, IsFlow, AreSides, bits_of, merge_of}
-use Rattle.unwind_state.specs.Images.{Image, HasReturned, IsBehind}
-use Rattle.unwind_state.specs.Unwinding.{Grows, Unwinds}
+use Rattle.unwind_state.specs.Images.{Image, HasReturned}
+use Rattle.unwind_state.specs.Unwinding.{Grows}
 use Rattle.unwind_state.specs.Writing.{HasObjects, sized}
 use Rattle.unwind_state.proofs.Gates.{adds_built}
 use Rattle.unwind_state.proofs.Pieces.{isnt_zero, ask, branch}
@@ -42,7 +38,7 @@ use Rattle.unwind_simple.specs.declared.simple.Activation.{Activation}
 use Rattle.unwind_simple.specs.Simple.{setting_of, calls_in, result_in, is_in, IsValued, IsDone}
 use Rattle.unwind_simple.proofs.Statements.{zero_number, grown_result}
 use Rattle.unwind_blocks.specs.Blocks.{IsTested, IsStretch, IsUnwound, AreUnwound, behind_items, between}
-use Rattle.unwind_blocks.proofs.Orders.{fixed, state, behind, fewer, out_of, stays, declares, items_declare, Sofar, left_first, left_more, left_none}
+use Rattle.unwind_blocks.proofs.Orders.{fixed, state, behind, fewer, out_of, items_declare, Sofar, left_first, left_more, left_none}
 
 -- what stays
 
@@ -80,17 +76,6 @@ only_has g Returning x h Next = tt
 only_has g Returning x h Breaking = tt
 only_has g Returning x h Continuing = tt
 only_has g Returning x h Returning = h
-
--- an initializer of one expression
-
-one_value : (c : Scope) (t : IntType) (es : List TExpr) (x : TExpr) → es ≡ x ∷ [] → FitsInit c false t (Exprs es) → FitsAs c t x
-one_value c t es x is (e, q, h) = subst (FitsAs c t) (same e x (sym q ∙ is)) h
-  where
-    same : (e x : TExpr) → e ∷ [] ≡ x ∷ [] → e ≡ x
-    same e x p = cc
-
-pub one_init : (c : Scope) (t : IntType) (init : TInit) (es : List TExpr) (x : TExpr) → init ≡ Exprs es → es ≡ x ∷ [] → FitsInit c false t init → FitsAs c t x
-one_init c t init es x is is_es h = one_value c t es x is_es (subst (FitsInit c false t) is h)
 
 -- a condition
 

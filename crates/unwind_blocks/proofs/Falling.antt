@@ -1,5 +1,5 @@
 -- What goes on to the next statement alone: simple statements and calls.
-use Rattle.std.proofs.Common.{◌≡◌, ℕ, zero, suc, ◌+◌, ◌%◌, ◌^◌, List, [], ◌∷◌, ◌++◌, Bool, true, false, refl, sym, ap, ◌∙◌, subst}
+use Rattle.std.proofs.Common.{◌≡◌, ℕ, zero, suc, ◌%◌, ◌^◌, List, [], ◌∷◌, ◌++◌, Bool, true, false, refl}
 use Rattle.std.specs.Prelude.{ℤ, pos, Option, Some, None, IsTrue, if◌then◌else◌, nat_lt, slice_get, slice_index_or, eqb}
 use Rattle.std.proofs.lemmas.Bool.{false≢true}
 use Rattle.src_text.specs.declared.refusal.Place.{Place}
@@ -19,9 +19,9 @@ use Rattle.joint_ir.specs.declared.stmt.TTarget.{TTarget}
 use Rattle.joint_ir.specs.declared.stmt.TUpdate.{TUpdate}
 use Rattle.joint_ir.specs.declared.way.Way.{Way}
 use Rattle.joint_ir.specs.declared.way.Way.TheVariants.{Next, Breaking, Continuing, Returning}
-use Rattle.joint_ir.specs.Effects.{Effect, Told, nothing, drew, Goes, Stops, TooFew, Onward, preceded, then_do, check_then, broken, with_value, with_values, draw, draw_all}
+use Rattle.joint_ir.specs.Effects.{Effect, Told, drew, Goes, Stops, TooFew, Onward, preceded, then_do, check_then, with_value, with_values, draw, draw_all}
 use Rattle.joint_ir.specs.States.{JointState}
-use Rattle.joint_ir.specs.Statements.{after, after_body, closing, any_result, body_effect, set_params, entered_body, entered_function, is_below_limit, calls_at, no_calls}
+use Rattle.joint_ir.specs.Statements.{after, after_body, closing, any_result, entered_body, entered_function, is_below_limit, calls_at, no_calls}
 use Rattle.joint_ir.specs.Steps.{Setting, Calls, rows_in, slot_type, element_of, with_locals, call_effect, with_init, with_index, within_bounds, right_value, store_at, store_effect, update_effect, set_inputs, clock_edge, next_frame, first_value}
 use Rattle.joint_ir.specs.Types.{converted}
 use Rattle.joint_ir.specs.Values.{Answer, Value, Fault, Rows, value_of, binary_value}

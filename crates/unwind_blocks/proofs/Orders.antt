@@ -1,9 +1,7 @@
 -- Statements one after another.
-use Rattle.std.proofs.Common.{◌≡◌, ℕ, zero, suc, ◌+◌, ◌<◌, List, [], ◌∷◌, ◌++◌, length, take, drop, refl, sym, ap, ◌∙◌, subst}
-use Rattle.std.specs.Prelude.{Contains, Option, Some, None, slice_get, bit_or}
+use Rattle.std.proofs.Common.{◌≡◌, ℕ, zero, suc, List, [], ◌∷◌, take, drop, refl, sym, ap, subst}
+use Rattle.std.specs.Prelude.{Contains, Option, Some, None}
 use Rattle.std.proofs.lemmas.List.Elements.{Contains-append_right}
-use Rattle.word_eqs.specs.Graph.{Graph}
-use Rattle.word_eqs.specs.Meaning.{Values, Respects}
 use Rattle.joint_ir.specs.declared.ctype.IntType.{IntType}
 use Rattle.joint_ir.specs.declared.stmt.SNode.{SNode, Declare}
 use Rattle.joint_ir.specs.declared.stmt.TStmt.{TStmt}

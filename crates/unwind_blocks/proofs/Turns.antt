@@ -1,39 +1,35 @@
 -- A loop, turn by turn.
-use Rattle.std.proofs.Common.{◌≡◌, ℕ, zero, suc, ◌+◌, ◌-◌, ◌<◌, ◌≤◌, List, [], ◌∷◌, ◌++◌, Bool, true, false, refl, sym, ap, ◌∙◌, subst, append-nil, arith}
+use Rattle.std.proofs.Common.{◌≡◌, ℕ, suc, List, [], ◌∷◌, ◌++◌, Bool, true, false, refl, sym, ap, ◌∙◌, subst}
 use Rattle.std.specs.Prelude.{ℤ, Contains, Option, Some, None, IsTrue, bit_or, nat_lt, if◌then◌else◌}
 use Rattle.std.specs.Int.Bits.{or_zero_l, or_zero_r}
-use Rattle.bits_core.specs.Word.{number, bit, at_zero}
+use Rattle.bits_core.specs.Word.{number, at_zero}
 use denote.Hole.Carrier.{out, shown}
-use Rattle.word_eqs.specs.declared.list.Act.{Act}
 use Rattle.word_eqs.specs.declared.list.Act.TheVariants.{Prop}
 use Rattle.word_eqs.specs.declared.list.Step.{Step}
 use Rattle.word_eqs.specs.Graph.{Graph, IsGraph}
 use Rattle.word_eqs.specs.Guarded.{AtProp}
 use Rattle.word_eqs.specs.Meaning.{Values, Respects}
-use Rattle.joint_ir.specs.declared.ctype.IntType.{IntType}
 use Rattle.joint_ir.specs.declared.expr.TExpr.{TExpr}
 use Rattle.joint_ir.specs.declared.program.PropId.{PropId}
-use Rattle.joint_ir.specs.declared.stmt.SNode.{SNode, Row_of-TStmt, end_of-TStmt, more_of-TStmt, None', Some'}
+use Rattle.joint_ir.specs.declared.stmt.SNode.{Row_of-TStmt, end_of-TStmt, more_of-TStmt, None', Some'}
 use Rattle.joint_ir.specs.declared.stmt.SNode.TheBlock.{items-the_row-TStmt, items_shown-the_row-TStmt-0, shown-the_row-TStmt-0, shown-the_row-TStmt-1}
 use Rattle.joint_ir.specs.declared.stmt.TLoop.{TLoop, TLoop', out-TLoop}
 use Rattle.joint_ir.specs.declared.stmt.TStmt.{TStmt}
 use Rattle.joint_ir.specs.declared.way.Way.{Way}
 use Rattle.joint_ir.specs.declared.way.Way.TheVariants.{Next, Breaking, Continuing, Returning}
-use Rattle.joint_ir.specs.Effects.{Effect, Told, nothing, joined, seen, Goes, Stops, TooFew, Onward, preceded, then_do, after_turn, broken, with_value}
-use Rattle.joint_ir.specs.declared.event.Event.TheVariants.{Broke}
-use Rattle.joint_ir.specs.declared.event.Outcome.TheVariants.{Broken}
+use Rattle.joint_ir.specs.Effects.{Effect, Told, nothing, joined, Goes, Stops, TooFew, Onward, preceded, then_do, after_turn, broken}
 use Rattle.joint_ir.specs.States.{JointState}
-use Rattle.joint_ir.specs.Statements.{after, after_loop, tested, turns, loop_effect, condition_value}
-use Rattle.joint_ir.specs.Steps.{Setting, Calls, rows_in, limit_of}
+use Rattle.joint_ir.specs.Statements.{after, after_loop, tested, turns, loop_effect}
+use Rattle.joint_ir.specs.Steps.{rows_in, limit_of}
 use Rattle.joint_ir.specs.Values.{Answer, value_of, is_zero}
 use Rattle.joint_ir.specs.WellFormed.{Scope, FitsExpr, FitsStmt, FitsOption, FitsLoop, with_scope_locals, in_a_loop, declared_behind, behind_row, is_simple}
 use Rattle.joint_lists.specs.Lists.{after_items, after_option, FitsItems, FitsOptional}
 use Rattle.joint_lists.proofs.Rows.{after-loop}
 use Rattle.joint_lists.proofs.Shapes.{fits-loop}
 use Rattle.sized_terms.specs.declared.SizedTerm.{SizedTerm}
-use Rattle.sized_terms.specs.Sized.{IsMade, bits}
+use Rattle.sized_terms.specs.Sized.{bits}
 use Rattle.unrolled.specs.declared.Unrolled.{Unrolled}
-use Rattle.trails.specs.Following.{way_bit, IsAt, GoesOn, EndsAt, goes, Follows}
+use Rattle.trails.specs.Following.{way_bit, IsAt, goes, Follows}
 use Rattle.trails.specs.Trails.{Trail, Through, Halts, values_of, act_trail, trail}
 use Rattle.trails.proofs.Walking.{trail_one}
 use Rattle.trails.proofs.Ways.{IsAfter, preceded_twice, preceded_nothing, joined_nothing}
@@ -42,19 +38,19 @@ use Rattle.unwind_state.specs.declared.state.Guard.{Guard}
 use Rattle.unwind_state.specs.declared.state.Guard.TheVariants.{Never}
 use Rattle.unwind_state.specs.declared.state.Sides.{Sides}
 use Rattle.unwind_state.specs.declared.state.State.{State}
-use Rattle.unwind_state.specs.Guards.{HasGuard, HasFlow, Adds, IsFlow, flow_at, bit_at, bits_of, merge_of, turned_of, gathered_of, AreSides}
-use Rattle.unwind_state.specs.Images.{Image, look, HasReturned}
-use Rattle.unwind_state.specs.Unwinding.{Grows, Unwinds, IsIdle, IsPushed}
+use Rattle.unwind_state.specs.Guards.{HasGuard, HasFlow, IsFlow, flow_at, bit_at, bits_of, merge_of, turned_of, gathered_of}
+use Rattle.unwind_state.specs.Images.{Image, look}
+use Rattle.unwind_state.specs.Unwinding.{Grows, Unwinds, IsPushed}
 use Rattle.unwind_state.specs.Writing.{HasObjects, HasResult}
 use Rattle.unwind_state.proofs.Gates.{adds_none, adds_built}
 use Rattle.unwind_state.proofs.Pieces.{ask, branch, broken_follows}
 use Rattle.unwind_state.proofs.Stretches.{unwinds_as, unwinds_mapped, relabelled, added_before, begun, chain}
 use Rattle.unwind_simple.specs.declared.simple.Activation.{Activation}
-use Rattle.unwind_simple.specs.Simple.{setting_of, calls_in, result_in, is_in, MayRun}
+use Rattle.unwind_simple.specs.Simple.{setting_of, calls_in, result_in, is_in}
 use Rattle.unwind_simple.proofs.Statements.{grown_result}
 use Rattle.unwind_blocks.specs.Blocks.{IsTested, IsStretch, IsUnwound, AreUnwound, state_at, behind_at, behind_items, between}
 use Rattle.unwind_blocks.specs.Loops.{turn_out, IsPart, test_in, first_part, turn_of, turns_in, loop_in, FitsLast, FitsTurn, left_of, IsEnded}
-use Rattle.unwind_blocks.proofs.Orders.{fixed, fewer, out_of, stays, rest_out, then_after, then_outs, rest_goes, rest_leaves, scope_behind, declares, items_declare}
+use Rattle.unwind_blocks.proofs.Orders.{fixed, fewer, out_of, stays, rest_out, then_after, then_outs, rest_goes, rest_leaves, scope_behind, items_declare}
 use Rattle.unwind_blocks.proofs.Branches.{grows_then, grows_adds, flow_grows, objects_grow, tested_grows, by_value, breaks, stretch_way}
 use Rattle.unwind_blocks.proofs.Falling.{Falls, AllFall, way_falls, calls_fall, option_falls}
 

@@ -1,17 +1,14 @@
 -- Where statements may be unwound, and what the unwinding of each promises.
-use Rattle.std.specs.Prelude.{◌≡◌, ℕ, Bool, true, false, List, [], ◌∷◌, ◌++◌, Option, Some, None, IsTrue, slice_get, nat_lt}
+use Rattle.std.specs.Prelude.{◌≡◌, ℕ, List, [], ◌∷◌, nat_lt}
 use Rattle.bits_core.specs.Word.{bit}
 use Rattle.word_eqs.specs.Meaning.{Values, Respects}
 use Rattle.joint_ir.specs.declared.expr.TExpr.{TExpr}
-use Rattle.joint_ir.specs.declared.stmt.SNode.{SNode}
-use Rattle.joint_ir.specs.declared.stmt.TInit.{TInit}
 use Rattle.joint_ir.specs.declared.stmt.TStmt.{TStmt}
-use Rattle.joint_ir.specs.declared.stmt.TTarget.{TTarget}
 use Rattle.joint_ir.specs.declared.way.Way.{Way}
 use Rattle.joint_ir.specs.declared.way.Way.TheVariants.{Next, Breaking, Continuing, Returning}
 use Rattle.joint_ir.specs.Effects.{Onward}
 use Rattle.joint_ir.specs.States.{JointState}
-use Rattle.joint_ir.specs.WellFormed.{Scope, FitsTarget, FitsInit, declared_behind}
+use Rattle.joint_ir.specs.WellFormed.{declared_behind}
 use Rattle.sized_terms.specs.declared.SizedTerm.{SizedTerm}
 use Rattle.sized_terms.specs.Sized.{bits}
 use Rattle.unrolled.specs.declared.Unrolled.{Unrolled}
@@ -20,21 +17,12 @@ use Rattle.unwind_state.specs.declared.state.Flow.{Flow}
 use Rattle.unwind_state.specs.declared.state.Guard.{Guard}
 use Rattle.unwind_state.specs.declared.state.Sides.{Sides}
 use Rattle.unwind_state.specs.declared.state.State.{State}
-use Rattle.unwind_state.specs.Guards.{HasGuard, HasFlow, Adds, AreSides}
+use Rattle.unwind_state.specs.Guards.{HasFlow, Adds, AreSides}
 use Rattle.unwind_state.specs.Images.{Image, IsState, IsSettled, IsBehind}
 use Rattle.unwind_state.specs.Unwinding.{Grows, Unwinds}
 use Rattle.unwind_state.specs.Writing.{HasObjects, HasResult}
 use Rattle.unwind_simple.specs.declared.simple.Activation.{Activation}
-use Rattle.unwind_simple.specs.Simple.{is_in, result_in, IsValued, stored_type}
-
--- what a store needs
-pub record MayPut (a : Activation) (n : Unrolled) (s : State) (target : TTarget) (init : TInit) (g : Guard) : Type 0 where
-  pub scope : Scope
-  pub program : is_in a scope
-  pub fits_target : FitsTarget scope target
-  pub fits_init : FitsInit scope false (stored_type a target) init
-  pub objects : HasObjects a.pair.now.program n.terms s.objects
-  pub guard : HasGuard n.terms g
+use Rattle.unwind_simple.specs.Simple.{result_in, IsValued}
 
 -- a condition: its value was asked for, and the guard split by whether it isn't 0
 pub record IsTested (a : Activation) (n0 n3 : Unrolled) (s : State) (e : TExpr) (g : Guard) (sides : Sides) : Type 0 where

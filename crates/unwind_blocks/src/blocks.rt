@@ -14,7 +14,7 @@ use joint_ir::{SNode, TLoop, TStmt, Way, lookup};
 use sqlite_items::Boxed;
 use std::alloc::{AllocError, Global};
 use unrolled::Unrolled;
-use unwind_simple::{Activation, assert, assume};
+use unwind_simple::{Activation, assert, assume, called, give_back};
 use unwind_state::{Flow, Guard, State, joined, merged, turned};
 
 /// A statement under a guard, with the guards of the ways on. Those that aren't made yet end as want of memory does.
@@ -41,6 +41,10 @@ pub fn stmt(
             let f = plain_store(net, at, state, target, init, guard)?;
             Ok(f)
         }
+        SNode::Call(call) => {
+            let f = called(net, at, state, call, guard)?;
+            Ok(f)
+        }
         SNode::If(e, body, other) => {
             let sides = tested(net, at, state, e.get(), guard)?;
             let a = stmt(alloc, net, at, state, body.get(), sides.taken)?;
@@ -54,6 +58,10 @@ pub fn stmt(
         }
         SNode::Break => Ok(Flow::only(Way::Breaking, guard)),
         SNode::Continue => Ok(Flow::only(Way::Continuing, guard)),
+        SNode::Return(init) => {
+            let f = give_back(net, at, state, init, guard)?;
+            Ok(f)
+        }
         SNode::Assert(e, broken) => {
             let f = assert(net, at, state, e.get(), *broken, guard)?;
             Ok(f)

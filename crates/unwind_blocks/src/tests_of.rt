@@ -3,8 +3,8 @@
 ghost use Rattle.std.specs.Prelude.{◌≡◌, IfOk, false};
 ghost use Rattle.joint_ir.specs.Steps.{store_effect};
 ghost use Rattle.joint_ir.specs.WellFormed.{Scope, FitsTarget, FitsInit};
-ghost use Rattle.unwind_simple.specs.Simple.{MayAsk, IsDone, calls_in, is_in, setting_of, stored_type};
-ghost use Rattle.unwind_blocks.specs.Blocks.{IsTested, MayPut};
+ghost use Rattle.unwind_simple.specs.Simple.{MayAsk, MayRun, IsDone, calls_in, is_in, setting_of, stored_type};
+ghost use Rattle.unwind_blocks.specs.Blocks.{IsTested};
 
 use joint_ir::{TExpr, TInit, TTarget};
 use std::alloc::AllocError;
@@ -30,7 +30,7 @@ pub fn tested(
     Ok(sides)
 }
 
-/// A store. One through an index, or of a call's result, isn't made yet, and ends as want of memory does.
+/// A store. One through an index isn't made yet, and ends as want of memory does.
 pub fn plain_store(
     net: &mut Unrolled,
     at: &Activation,
@@ -39,19 +39,12 @@ pub fn plain_store(
     init: &TInit,
     guard: Guard,
 ) -> Result<Flow, AllocError>
-    requires { MayPut at.now net.old state.old target.now init.now guard }
+    requires { MayRun at.now net.old state.old guard (λ c. FitsTarget c target.now × FitsInit c false (stored_type at.now target.now) init.now) }
     ensures { IfOk result (λ f. (c : Scope) → is_in at.now c → FitsTarget c target.now → FitsInit c false (stored_type at.now target.now) init.now → IsDone at.now net.old net.new state.old state.new guard f c.locals c.locals (store_effect (setting_of at.now) (calls_in at.now) target.now init.now)) }
 {
-    // The terms are a graph.
-    let _ = net.terms.len();
-    let TInit::Values(es) = init else {
-        return Err(AllocError);
-    };
-    let es = es.as_slice();
-    if es.len() != 1 || target.index.is_some() {
+    if target.index.is_some() {
         return Err(AllocError);
     }
-    let e = &es[0];
-    let f = store(net, at, state, target, e, guard)?;
+    let f = store(net, at, state, target, init, guard)?;
     Ok(f)
 }

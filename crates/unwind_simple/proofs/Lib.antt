@@ -1,2 +1,5 @@
+pub mod Obtaining
+pub mod Returning
 pub mod Statements
+pub mod Storing
 pub mod Types

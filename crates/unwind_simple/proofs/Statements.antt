@@ -1,6 +1,6 @@
 -- Expressions and simple statements, from what their parts promise.
-use Rattle.std.proofs.Common.{◌≡◌, ℕ, zero, suc, ◌-◌, ◌+◌, ◌<◌, ◌≤◌, ◌^◌, Bool, true, false, List, [], ◌∷◌, ◌++◌, length, map, Option, Some, None, refl, sym, ap, ◌∙◌, subst, arith}
-use Rattle.std.specs.Prelude.{ℤ, pos, negsuc, nat_lt, slice_get, slice_index_or, if◌then◌else◌, Contains}
+use Rattle.std.proofs.Common.{◌≡◌, ℕ, zero, suc, ◌-◌, ◌+◌, ◌<◌, ◌^◌, Bool, true, false, List, [], ◌++◌, map, Option, Some, None, refl, sym, ap, ◌∙◌, subst, arith}
+use Rattle.std.specs.Prelude.{ℤ, pos, negsuc, nat_lt, slice_get, slice_index_or, if◌then◌else◌}
 use Rattle.std.proofs.Math.ListN.{get_or-map}
 use Rattle.std.proofs.lemmas.Simd.{map-map}
 use Rattle.std.proofs.lemmas.Nat.{pow_pos}
@@ -11,25 +11,22 @@ use Rattle.word_eqs.specs.declared.list.Step.{Step}
 use Rattle.word_eqs.specs.declared.term.TermId.{TermId}
 use Rattle.word_eqs.specs.Graph.{Graph}
 use Rattle.word_eqs.specs.Guarded.{walk}
-use Rattle.word_eqs.specs.Meaning.{Values, Respects}
+use Rattle.word_eqs.specs.Meaning.{Values}
 use Rattle.joint_ir.specs.declared.ctype.IntType.{IntType}
-use Rattle.joint_ir.specs.declared.event.Event.TheVariants.{Stored}
 use Rattle.joint_ir.specs.declared.event.Outcome.TheVariants.{Cut}
 use Rattle.joint_ir.specs.declared.expr.Slot.{Slot}
 use Rattle.joint_ir.specs.declared.expr.Slot.TheVariants.{Global, Local, Member, BoundValue}
 use Rattle.joint_ir.specs.declared.expr.TExpr.{TExpr}
 use Rattle.joint_ir.specs.declared.program.CProgram.{CProgram}
 use Rattle.joint_ir.specs.declared.program.PropId.{PropId}
-use Rattle.joint_ir.specs.declared.stmt.TInit.TheVariants.{Values as Exprs}
-use Rattle.joint_ir.specs.declared.stmt.TTarget.{TTarget}
 use Rattle.joint_ir.specs.declared.way.Way.{Way}
 use Rattle.joint_ir.specs.declared.way.Way.TheVariants.{Next, Breaking, Continuing, Returning}
-use Rattle.joint_ir.specs.Effects.{Effect, Onward, nothing, seen, Goes, Stops, with_value, broken}
-use Rattle.joint_ir.specs.States.{JointState, element_count, put}
-use Rattle.joint_ir.specs.Steps.{Calls, rows_in, slot_type, with_store, result_of, store_effect}
-use Rattle.joint_ir.specs.Values.{Answer, Value, Fault, Rows, value_of, is_zero}
+use Rattle.joint_ir.specs.Effects.{Effect, Onward, nothing, Goes, Stops, broken}
+use Rattle.joint_ir.specs.States.{JointState, element_count}
+use Rattle.joint_ir.specs.Steps.{rows_in, slot_type}
+use Rattle.joint_ir.specs.Values.{Answer, Value, Fault, value_of, is_zero}
 use Rattle.joint_ir.specs.Weights.{slot_length}
-use Rattle.joint_ir.specs.WellFormed.{Scope, FitsExpr, FitsTarget, FitsAs, IsVisible, IsObject, is_array, is_bound, is_some}
+use Rattle.joint_ir.specs.WellFormed.{Scope, FitsExpr, IsVisible, is_bound}
 use Rattle.sized_terms.specs.declared.SizedTerm.{SizedTerm}
 use Rattle.sized_terms.specs.Sized.{Has, bits}
 use Rattle.unrolled.specs.declared.Objects.{Objects}
@@ -39,21 +36,20 @@ use Rattle.element_terms.specs.Elements.{sized}
 use Rattle.expression_steps.specs.Asking as expr
 use Rattle.expression_steps.specs.Objects.{AreObjects, StandFor, IsReady, AsksFor, numbers_of}
 use Rattle.trails.specs.Following.{goes}
-use Rattle.trails.specs.Trails.{Trail, Through, trail}
+use Rattle.trails.specs.Trails.{trail}
 use Rattle.trails.proofs.Walking.{passes_trail, stops_trail}
 use Rattle.unwind_state.specs.declared.state.Flow.{Flow}
 use Rattle.unwind_state.specs.declared.state.Guard.{Guard}
 use Rattle.unwind_state.specs.declared.state.Guard.TheVariants.{Never, Always, When}
 use Rattle.unwind_state.specs.declared.state.State.{State}
-use Rattle.unwind_state.specs.Guards.{bit_at, HasGuard, HasFlow, flow_at, Adds}
+use Rattle.unwind_state.specs.Guards.{HasGuard, HasFlow, flow_at}
 use Rattle.unwind_state.specs.Images.{Image, words, words_at, look, numbers, IsState, IsSettled, HasReturned, IsBehind}
-use Rattle.unwind_state.specs.Unwinding.{Grows, IsTerm, Gives, Asks, Unwinds, IsPushed, Changes}
-use Rattle.unwind_state.specs.Writing.{HasObjects, HasResult, IsThere, IsPut, with_objects}
+use Rattle.unwind_state.specs.Unwinding.{Grows, IsTerm, Gives, IsPushed}
+use Rattle.unwind_state.specs.Writing.{HasObjects, HasResult, IsThere}
 use Rattle.unwind_state.proofs.Stretches.{unwinds_as}
-use Rattle.unwind_state.proofs.Pieces.{isnt_zero, ask, asserted, assumed, changed}
-use Rattle.unwind_state.proofs.Puts.{put_changes, put_has}
+use Rattle.unwind_state.proofs.Pieces.{isnt_zero, ask, asserted, assumed}
 use Rattle.unwind_simple.specs.declared.simple.Activation.{Activation}
-use Rattle.unwind_simple.specs.Simple.{setting_of, calls_in, result_in, is_in, MayAsk, IsValued, stored_type, MayStore, IsDone, asserted_as, assumed_as}
+use Rattle.unwind_simple.specs.Simple.{setting_of, result_in, is_in, MayAsk, IsValued, IsDone, asserted_as, assumed_as}
 
 -- what a number of a word says of the word
 
@@ -228,67 +224,4 @@ module _ (a : Activation) where
             let B' = unwinds_as fixed n1 n2 st st (λ v s c. if isnt_zero (bits v t) then Goes Next s nothing c else Stops Cut nothing c) (λ v. K (number e.ty.signed e.ty.bits (bits v t))) g (flow_at Next g) (state c.locals) (state c.locals) (behind c.locals) (behind c.locals) goes goes
             (λ x s h. h) (λ v r s h c. chosen_is e.ty (bits v t) (Goes Next s nothing c) (Stops Cut nothing c)) (λ w x s h. h) (λ w s c. refl) B in
             ask fixed n0 n1 n2 st st e.ty (λ s. value_of (rows_in (setting_of a) s) e) K g t (flow_at Next g) (state c.locals) (behind c.locals) goes (V.asks c inside fits) B';
-      })
-
-  -- a target that is no array has one term
-  some_lt : (n : ℕ) → 0 < n → nat_lt 0 n ≡ true
-  some_lt n h = grind (arith, nat_tests)
-
-  one_element : (n : ℕ) → nat_lt 0 n ≡ false → element_count n ≡ 1
-  one_element zero e = refl
-  one_element (suc n) e = let d : true ≡ false = sym (some_lt (suc n) (omega arith)) ∙ e in cc
-
-  plain_target : (n : Unrolled) (st : State) (target : TTarget) (e : TExpr) (g : Guard) → MayStore a n st target e g → length (terms_of st.objects target.slot) ≡ 1
-  plain_target n st target e g M =
-      let shape : is_array M.scope.program target.slot ≡ false = M.fits_target.object.shape ∙ ap is_some M.plain in
-      M.objects.count target.slot (there_in M.scope target.slot M.program M.fits_target.object.visible M.fits_target.stored)
-      ∙ one_element (slot_length a.pair.now.program target.slot) (ap (λ (q : CProgram). is_array q target.slot) (sym M.program.0) ∙ shape)
-
-  pub store_asks : (n : Unrolled) (st : State) (target : TTarget) (e : TExpr) (g : Guard) → MayStore a n st target e g → MayAsk a n st e g
-  store_asks n st target e g M = record { scope = M.scope; program = M.program; fits = M.fits.1; objects = M.objects; guard = M.guard }
-
-  pub store_guard : (n0 n1 : Unrolled) (st : State) (target : TTarget) (e : TExpr) (g : Guard) (t : SizedTerm) → MayStore a n0 st target e g → IsValued a n0 n1 st e g t → HasGuard n1.terms g
-  store_guard n0 n1 st target e g t M V = grown_guard n0 n1 g V.grows M.guard
-
-  pub store_there : (n : Unrolled) (st : State) (target : TTarget) (e : TExpr) (g : Guard) → MayStore a n st target e g → 0 < length (terms_of st.objects target.slot)
-  store_there n st target e g M = let q = plain_target n st target e g M in omega arith
-
-  value_width : (n0 n1 : Unrolled) (st : State) (target : TTarget) (e : TExpr) (g : Guard) (t : SizedTerm) → MayStore a n0 st target e g → IsValued a n0 n1 st e g t → t.width ≡ (slot_type a.pair.now.program target.slot).bits
-  value_width n0 n1 st target e g t M V = V.width ∙ ap (λ (u : IntType). u.bits) M.fits.0
-
-  pub store_old : (n0 n1 : Unrolled) (st : State) (target : TTarget) (e : TExpr) (g : Guard) (t : SizedTerm) → MayStore a n0 st target e g → IsValued a n0 n1 st e g t →
-      (u : TermId) → slice_get (terms_of st.objects target.slot) 0 ≡ Some u → Has n1.terms (sized u t.width)
-  store_old n0 n1 st target e g t M V u at =
-      let h = M.objects.has target.slot (there_in M.scope target.slot M.program M.fits_target.object.visible M.fits_target.stored) 0 u at in
-      subst (λ w. Has n1.terms (sized u w)) (sym (value_width n0 n1 st target e g t M V)) (V.grows.kept (sized u (slot_type a.pair.now.program target.slot).bits) h)
-
-  -- what a store to an object that is no array does
-  store_is : (calls : Calls) (target : TTarget) (e : TExpr) (i : Option TExpr) → i ≡ None → (s : JointState) (c : List ℕ) →
-      store_effect (setting_of a) calls (record { place = target.place; slot = target.slot; index = i; bounds = target.bounds }) (Exprs (e ∷ [])) s c
-      ≡ with_value (value_of (rows_in (setting_of a) s) e) c (λ n. Goes Next (with_store s (put s.store target.slot 0 n)) (seen (Stored target.place.line target.slot None n)) c)
-  store_is calls target e None q s c = refl
-  store_is calls target e (Some i) q s c = let d : Some i ≡ None = q in cc
-
-  pub done_store : (n0 n1 n2 : Unrolled) (st : State) (o : Objects) (target : TTarget) (e : TExpr) (g : Guard) (t : SizedTerm) (f : Flow) → f ≡ flow_at Next g → MayStore a n0 st target e g → IsValued a n0 n1 st e g t → IsPut n1 n2 st.objects o target.slot 0 t g →
-      (c : Scope) → is_in a c → FitsTarget c target → FitsAs c (stored_type a target) e → IsDone a n0 n2 st (with_objects st o) g f c.locals c.locals (store_effect (setting_of a) (calls_in a) target (Exprs (e ∷ [])))
-  done_store n0 n1 n2 st o target e g t f is M V P c inside fits_target fits =
-      let k = setting_of a in
-      let ty = slot_type a.pair.now.program target.slot in
-      let all : Grows n0.terms n2.terms = record { grown = λ v r. V.grows.grown v (P.adds.grown v r); kept = λ x h. P.adds.kept x (V.grows.kept x h); proper = P.adds.proper } in
-      subst (λ (f : Flow). IsDone a n0 n2 st (with_objects st o) g f c.locals c.locals (store_effect k (calls_in a) target (Exprs (e ∷ [])))) (sym is) (record {
-        grows = all;
-        objects = put_has a.pair.now.program n1 n2 st.objects o target.slot 0 t g (value_width n0 n1 st target e g t M V) P (grown_objects n0 n1 st.objects V.grows M.objects);
-        result = grown_result n0.terms n2.terms st.result all;
-        flow = next_flow n2.terms g (grown_guard n0 n2 g all M.guard);
-        does =
-            let next : ℤ → JointState → JointState = λ n s. with_store s (put s.store target.slot 0 n) in
-            let K : ℤ → Onward = λ n s c. Goes Next (next n s) (seen (Stored target.place.line target.slot None n)) c in
-            let n : Values → IntType → ℤ = λ v u. number u.signed u.bits (bits v t) in
-            let C = put_changes a.pair.now c.locals n1 n2 st o target.slot 0 t g (store_there n0 st target e g M) P in
-            let B = changed fixed n1 n2 st (with_objects st o) Next g (state c.locals) (state c.locals) (λ v s. next (n v ty) s) (λ v s. seen (Stored target.place.line target.slot None (n v ty))) (behind c.locals) (λ v s. refl) (stays c.locals) C in
-            let B' = unwinds_as fixed n1 n2 st (with_objects st o) (λ v. K (n v ty)) (λ v. K (n v e.ty)) g (flow_at Next g) (state c.locals) (state c.locals) (behind c.locals) (behind c.locals) goes goes
-            (λ x s h. h) (λ v r s h c. ap (λ u. K (n v u) s c) (sym fits.0)) (λ w x s h. h) (λ w s c. refl) B in
-            let D = ask fixed n0 n1 n2 st (with_objects st o) e.ty (λ s. value_of (rows_in k s) e) K g t (flow_at Next g) (state c.locals) (behind c.locals) goes (V.asks c inside fits.1) B' in
-            unwinds_as fixed n0 n2 st (with_objects st o) (λ v s c. with_value (value_of (rows_in k s) e) c (λ m. K m s c)) (λ v. store_effect k (calls_in a) target (Exprs (e ∷ []))) g (flow_at Next g) (state c.locals) (state c.locals) (behind c.locals) (behind c.locals) goes goes
-            (λ x s h. h) (λ v r s h c. sym (store_is (calls_in a) target e target.index M.plain s c)) (λ w x s h. h) (λ w s c. refl) D;
       })

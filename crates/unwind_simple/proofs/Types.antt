@@ -1,19 +1,18 @@
 -- Objects and results have types.
-use Rattle.std.proofs.Common.{◌≡◌, ℕ, zero, suc, ◌<◌, List, [], ◌∷◌, length, false, true, Option, Some, None, refl, sym, ap, ◌∙◌, subst, arith}
+use Rattle.std.proofs.Common.{◌≡◌, ℕ, zero, suc, ◌<◌, List, [], ◌∷◌, length, false, true, Option, Some, None, sym, subst, arith}
 use Rattle.std.specs.Prelude.{All, IfSome, IsSome, slice_get}
 use Rattle.std.proofs.lemmas.List.Elements.{All-head, All-tail}
 use Rattle.joint_ir.specs.declared.ctype.IntType.{IntType}
-use Rattle.joint_ir.specs.declared.expr.Slot.{Slot}
 use Rattle.joint_ir.specs.declared.expr.Slot.TheVariants.{Global, Local, Member, BoundValue}
 use Rattle.joint_ir.specs.declared.pair.Pair.{Pair}
 use Rattle.joint_ir.specs.declared.program.Function.{Function}
 use Rattle.joint_ir.specs.declared.program.Member.{Member as AMember}
 use Rattle.joint_ir.specs.declared.program.Var.{Var}
-use Rattle.joint_ir.specs.Steps.{slot_type, var_type, member_type, type_or_int}
+use Rattle.joint_ir.specs.Steps.{var_type, member_type, type_or_int}
 use Rattle.joint_ir.specs.Types.{IsType}
 use Rattle.joint_ir.specs.Views.{members_of}
 use Rattle.joint_ir.specs.WellFormed.{IsWellFormed, FitsVar, FitsMember}
-use Rattle.unwind_state.specs.Writing.{HasTypes, IsThere}
+use Rattle.unwind_state.specs.Writing.{HasTypes}
 
 var_typed : (xs : List Var) (i : ℕ) → i < length xs → All FitsVar xs → IsType (var_type (slice_get xs i))
 var_typed [] i few h = absurd (omega arith)

@@ -1,1 +1,2 @@
+pub mod Obtaining
 pub mod Simple

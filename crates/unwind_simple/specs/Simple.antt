@@ -1,6 +1,5 @@
 -- What the unwinding of an expression or of a simple statement promises.
-use Rattle.std.specs.Prelude.{◌≡◌, ℕ, List, None, Option, if◌then◌else◌, slice_get}
-use Rattle.word_eqs.specs.Meaning.{Values}
+use Rattle.std.specs.Prelude.{◌≡◌, ℕ, List, Option, if◌then◌else◌, slice_get}
 use Rattle.joint_ir.specs.declared.ctype.IntType.{IntType}
 use Rattle.joint_ir.specs.declared.event.Outcome.TheVariants.{Cut}
 use Rattle.joint_ir.specs.declared.expr.TExpr.{TExpr}
@@ -11,7 +10,7 @@ use Rattle.joint_ir.specs.Effects.{Onward, nothing, Goes, Stops, with_value, bro
 use Rattle.joint_ir.specs.Statements.{calls_at}
 use Rattle.joint_ir.specs.Steps.{Setting, Calls, rows_in, slot_type, result_of}
 use Rattle.joint_ir.specs.Values.{value_of, is_zero}
-use Rattle.joint_ir.specs.WellFormed.{Scope, IsWellFormed, FitsExpr, FitsTarget, FitsAs}
+use Rattle.joint_ir.specs.WellFormed.{Scope, IsWellFormed, FitsExpr}
 use Rattle.sized_terms.specs.declared.SizedTerm.{SizedTerm}
 use Rattle.sized_terms.specs.Sized.{Has}
 use Rattle.unrolled.specs.declared.Unrolled.{Unrolled}
@@ -70,16 +69,6 @@ pub record IsValued (a : Activation) (n0 n1 : Unrolled) (s : State) (e : TExpr) 
 -- the type of a target
 abbrev pub stored_type : Activation → TTarget → IntType
 stored_type a target = slot_type a.pair.now.program target.slot
-
--- a store that fits somewhere, to an object that is no array
-pub record MayStore (a : Activation) (n : Unrolled) (s : State) (target : TTarget) (e : TExpr) (g : Guard) : Type 0 where
-  pub scope : Scope
-  pub program : is_in a scope
-  pub fits_target : FitsTarget scope target
-  pub plain : target.index ≡ None
-  pub fits : FitsAs scope (stored_type a target) e
-  pub objects : HasObjects a.pair.now.program n.terms s.objects
-  pub guard : HasGuard n.terms g
 
 -- A statement was unwound: what it does, between the locals that are declared before it and those behind it; all objects have
 -- terms again, so has the result if it had one, and the guards of the ways on are there.

@@ -1,18 +1,16 @@
-// Expressions, assertions, assumptions and stores.
+// Expressions, assertions and assumptions.
 
-ghost use Rattle.std.specs.Prelude.{◌≡◌, ◌∷◌, [], None, IfOk, false};
-ghost use Rattle.joint_ir.specs.declared.stmt.TInit.TheVariants.{Values};
-ghost use Rattle.joint_ir.specs.Steps.{store_effect};
-ghost use Rattle.joint_ir.specs.WellFormed.{Scope, FitsExpr, FitsTarget, FitsAs};
-ghost use Rattle.unwind_simple.specs.Simple.{MayAsk, MayStore, IsValued, IsDone, calls_in, is_in, setting_of, asserted_as, assumed_as, stored_type};
+ghost use Rattle.std.specs.Prelude.{◌≡◌, IfOk};
+ghost use Rattle.joint_ir.specs.WellFormed.{Scope, FitsExpr};
+ghost use Rattle.unwind_simple.specs.Simple.{MayAsk, IsValued, IsDone, is_in, setting_of, asserted_as, assumed_as};
 
 use expression_steps::expr;
 use joint_ir::program::PropId;
-use joint_ir::{Bounds, Pair, TExpr, TTarget, Way};
+use joint_ir::{Bounds, Pair, TExpr, Way};
 use sized_terms::SizedTerm;
 use std::alloc::AllocError;
 use unrolled::Unrolled;
-use unwind_state::{Flow, Guard, State, cut, prop, put, term_of};
+use unwind_state::{Flow, Guard, State, cut, prop, term_of};
 
 /// What a body is unwound in: the pair and the bounds, and the place of its function.
 #[derive(Clone, Copy)]
@@ -72,22 +70,5 @@ pub fn assume(
 {
     let t = value(net, at, state, e, guard)?;
     cut(net, guard, t)?;
-    Ok(Flow::only(Way::Next, guard))
-}
-
-/// A store to an object that is no array, of an expression's value.
-pub fn store(
-    net: &mut Unrolled,
-    at: &Activation,
-    state: &mut State,
-    target: &TTarget,
-    e: &TExpr,
-    guard: Guard,
-) -> Result<Flow, AllocError>
-    requires { MayStore at.now net.old state.old target.now e.now guard }
-    ensures { IfOk result (λ f. (c : Scope) → is_in at.now c → FitsTarget c target.now → FitsAs c (stored_type at.now target.now) e.now → IsDone at.now net.old net.new state.old state.new guard f c.locals c.locals (store_effect (setting_of at.now) (calls_in at.now) target.now (Values (e.now ∷ [])))) }
-{
-    let t = value(net, at, state, e, guard)?;
-    put(net, &mut state.objects, target.slot, 0, t, guard)?;
     Ok(Flow::only(Way::Next, guard))
 }

@@ -1,18 +1,18 @@
-use Rattle.std.proofs.Common.{◌≡◌, false, ℕ, suc, ◌+◌, ◌-◌, List, [], ◌∷◌, take, drop, refl, sym, ap, ◌∙◌, subst, arith}
+use Rattle.std.proofs.Common.{◌≡◌, false, suc, ◌+◌, ◌-◌, [], ◌∷◌, take, drop, refl, sym, ap, ◌∙◌, subst, arith}
 use Rattle.std.specs.Prelude.{Some}
 use Rattle.std.proofs.lemmas.Grind.{common_steps}
 use Rattle.std.proofs.lemmas.List.{drop_more}
 use Rattle.std.proofs.Math.ListN.{drop_of_length-le}
 use Rattle.joint_ir.specs.declared.expr.TExpr.{TExpr}
-use Rattle.joint_ir.specs.declared.stmt.SNode.{SNode, the_lemmas, Block, Store, If, Loop, Break, Continue, Assert, Assume}
+use Rattle.joint_ir.specs.declared.stmt.SNode.{the_lemmas, Block, Store, Call, If, Loop, Break, Continue, Return, Assert, Assume}
 use Rattle.joint_ir.specs.declared.stmt.TLoop.{out-TLoop}
 use Rattle.joint_ir.specs.declared.stmt.TStmt.{TStmt}
 use Rattle.joint_ir.specs.declared.way.Way.TheVariants.{Next, Breaking, Continuing}
-use Rattle.joint_ir.specs.Statements.{after, after_loop, tested as tested_as}
+use Rattle.joint_ir.specs.Statements.{after, after_loop}
 use Rattle.joint_ir.specs.declared.program.CProgram.{CProgram}
-use Rattle.joint_ir.specs.Steps.{slot_type, store_effect}
-use Rattle.joint_ir.specs.WellFormed.{Scope, FitsExpr, FitsInit, FitsLoop, FitsOption, FitsStmt, declared_behind}
-use Rattle.joint_lists.specs.Lists.{after_items, after_option, FitsItems, FitsOptional}
+use Rattle.joint_ir.specs.Steps.{call_effect, return_effect, slot_type, store_effect}
+use Rattle.joint_ir.specs.WellFormed.{Scope, FitsExpr, FitsInit, FitsStmt, declared_behind}
+use Rattle.joint_lists.specs.Lists.{after_items, after_option, FitsOptional}
 use Rattle.joint_lists.proofs.Rows.{after-block, after-if}
 use Rattle.joint_lists.proofs.Shapes.{fits-block, fits-if}
 use Rattle.trails.specs.Following.{goes}
@@ -20,9 +20,8 @@ use Rattle.unwind_simple.specs.Simple.{setting_of, calls_in, asserted_as, assume
 use Rattle.unwind_simple.proofs.Statements.{grown_result}
 use Rattle.unwind_blocks.proofs.Orders.{Sofar, scope_behind, next_fits, declares, stays}
 use Rattle.unwind_blocks.proofs.Branches.{grows_adds, grows_then, guard_grows, flow_grows, objects_grow, tested_grows, done_if, done_as, done_at, done_block, done_fewer, done_way, unwound_at, breaks, continues, sofar_first, sofar_more, sofar_last}
-use Rattle.unwind_blocks.proofs.Turns.{LoopLeft, left_first, left_more, left_over, done_loop, inner_of, fits_heads, fits_turns, fits_last, last_simple, turn_made}
+use Rattle.unwind_blocks.proofs.Turns.{left_first, left_more, left_over, done_loop, inner_of, fits_heads, fits_turns, fits_last, last_simple, turn_made}
 use Rattle.unwind_blocks.specs.Blocks.{IsUnwound}
-use Rattle.unwind_blocks.specs.Loops.{FitsTurn, IsPart, test_in, first_part}
 use Rattle.unwind_blocks.proofs.blocks.+blocks.Goals as goal
 
 pub block-loop-s-init : goal.block-loop-s-init
@@ -139,6 +138,38 @@ stmt-returns-in_ok-f-in-Block t c =
     (sym (after-block k (calls_in at) s.place s.node c.in-Block.items c.as_slice.result.now c.in-Block.is c.as_slice.ensures))
     (done_block at c.args.net.now c.block.new.net c.args.state.now c.block.new.state c.as_slice.result.now c.args.guard c.in_ok-f-in-Block.f d.locals (after_items k (calls_in at) c.as_slice.result.now)
     (c.in_ok-f-in-Block.ensures d inside (fits-block d s.node c.in-Block.items c.as_slice.result.now c.in-Block.is c.as_slice.ensures fits)))
+
+pub stmt-plain_store-requires : goal.stmt-plain_store-requires
+stmt-plain_store-requires t c =
+    let d = c.requires.scope in
+    let F = subst (FitsStmt d) c.in-Store.is c.requires.fits in
+    record { well = c.requires.well; scope = d; program = c.requires.program; fits = (F.0, subst (λ (p : CProgram). FitsInit d false (slot_type p c.in-Store.target.slot) c.in-Store.init) c.requires.program.0 F.1); objects = c.requires.objects; result = c.requires.result; guard = c.requires.guard }
+
+pub stmt-called-requires : goal.stmt-called-requires
+stmt-called-requires t c =
+    record { well = c.requires.well; scope = c.requires.scope; program = c.requires.program; fits = subst (FitsStmt c.requires.scope) c.in-Call.is c.requires.fits; objects = c.requires.objects; result = c.requires.result; guard = c.requires.guard }
+
+pub stmt-returns-in_ok-f-in-Call : goal.stmt-returns-in_ok-f-in-Call
+stmt-returns-in_ok-f-in-Call t c =
+    let at = c.args.at.now in
+    let k = setting_of at in
+    let s = c.args.s.now in
+    λ d inside fits.
+    done_at at c.args.net.now c.called.new.net c.args.state.now c.args.state.now c.args.guard c.in_ok-f-in-Call.f d.locals s (Call c.in-Call.call) (call_effect k (calls_in at) c.in-Call.call) c.in-Call.is refl
+    (ap (after k (calls_in at) s.place) (sym c.in-Call.is)) (c.in_ok-f-in-Call.ensures d inside)
+
+pub stmt-give_back-requires : goal.stmt-give_back-requires
+stmt-give_back-requires t c =
+    record { well = c.requires.well; scope = c.requires.scope; program = c.requires.program; fits = subst (FitsStmt c.requires.scope) c.in-Return.is c.requires.fits; objects = c.requires.objects; result = c.requires.result; guard = c.requires.guard }
+
+pub stmt-returns-in_ok-f-in-Return : goal.stmt-returns-in_ok-f-in-Return
+stmt-returns-in_ok-f-in-Return t c =
+    let at = c.args.at.now in
+    let k = setting_of at in
+    let s = c.args.s.now in
+    λ d inside fits.
+    done_at at c.args.net.now c.give_back.new.net c.args.state.now c.give_back.new.state c.args.guard c.in_ok-f-in-Return.f d.locals s (Return c.in-Return.init) (return_effect k (calls_in at) c.in-Return.init) c.in-Return.is refl
+    (ap (after k (calls_in at) s.place) (sym c.in-Return.is)) (c.in_ok-f-in-Return.ensures d inside (subst (FitsStmt d) c.in-Return.is fits))
 
 pub stmt-returns-in_ok-f-in-Store : goal.stmt-returns-in_ok-f-in-Store
 stmt-returns-in_ok-f-in-Store t c =

@@ -1,6 +1,5 @@
 use Rattle.std.proofs.Common.{sym, ap, ◌∙◌, subst}
-use Rattle.std.specs.Prelude.{Option, Some}
-use Rattle.joint_ir.specs.declared.expr.TExpr.{TExpr}
+use Rattle.std.specs.Prelude.{Some}
 use Rattle.joint_ir.specs.WellFormed.{FitsOption}
 use Rattle.unwind_blocks.proofs.Turns.{test_none, test_some}
 use Rattle.unwind_blocks.proofs.loops.test.Goals as goal
