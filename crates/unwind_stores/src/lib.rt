@@ -1,0 +1,12 @@
+//! Updates, declarations, and stores through an index, unwound under a guard.
+#![tactic(auto)]
+
+mod declarations;
+mod elements;
+mod operators;
+mod stores;
+mod updates;
+
+pub use declarations::declare;
+pub use stores::store;
+pub use updates::update;
