@@ -7,7 +7,6 @@ use Rattle.joint_ir.specs.declared.ctype.IntType.{IntType}
 use Rattle.joint_ir.specs.declared.expr.Slot.TheVariants.{Local}
 use Rattle.joint_ir.specs.declared.event.Event.{Event}
 use Rattle.joint_ir.specs.declared.event.Event.TheVariants.{Frame, Driven, Stored, Broke}
-use Rattle.joint_ir.specs.declared.event.Outcome.TheVariants.{Ended}
 use Rattle.joint_ir.specs.declared.module.Role.TheVariants.{Input, Register}
 use Rattle.joint_ir.specs.declared.pair.Pair.{Pair}
 use Rattle.joint_ir.specs.declared.program.PropId.{PropId}
