@@ -1,5 +1,5 @@
--- Stretches of a run that see a break only where they end by it, and what is made of them.
-use Rattle.std.proofs.Common.{◌≡◌, ℕ, ◌%◌, ◌^◌, List, [], ◌∷◌, ◌++◌, refl, ◌∙◌}
+-- Stretches of a run that see a break only where they end by it, as the last event, and what is made of them.
+use Rattle.std.proofs.Common.{◌≡◌, ℕ, ◌%◌, ◌^◌, List, [], ◌∷◌, ◌++◌, refl, sym, ap, ◌∙◌, append_assoc}
 use Rattle.std.specs.Prelude.{ℤ, Option, Some, None, Bool, true, false, if◌then◌else◌}
 use Rattle.joint_ir.specs.declared.event.Event.{Event}
 use Rattle.joint_ir.specs.declared.event.Event.TheVariants.{Frame, Driven, Stored, Broke}
@@ -9,29 +9,28 @@ use Rattle.joint_ir.specs.declared.expr.TExpr.{TExpr}
 use Rattle.joint_ir.specs.declared.program.PropId.{PropId}
 use Rattle.joint_ir.specs.Values.{Answer, Value, Fault, Rows, value_of}
 use Rattle.joint_ir.specs.States.{JointState}
-use Rattle.joint_ir.specs.Effects.{Effect, Told, drew, Onward, Goes, Stops, TooFew, preceded, then_do, after_turn, after_groups, check_then, with_value, with_values, draw, draw_all}
+use Rattle.joint_ir.specs.Effects.{Effect, Told, drew, Onward, Goes, Stops, TooFew, preceded, broken, then_do, after_turn, after_groups, check_then, with_value, with_values, draw, draw_all}
 use Rattle.joint_ir.specs.declared.way.Way.{Way}
 use Rattle.joint_ir.specs.declared.way.Way.TheVariants.{Next, Breaking, Continuing, Returning}
+use Rattle.named_breaks.specs.Named.{first_broken}
 
--- the first property that breaks among events
-abbrev pub first_broken : List Event → Option PropId
-first_broken [] = None
-first_broken (Frame n shown ∷ events) = first_broken events
-first_broken (Driven shown ∷ events) = first_broken events
-first_broken (Stored line slot index value ∷ events) = first_broken events
-first_broken (Broke p ∷ events) = Some p
+-- events that end by the break of a property, and see no other
+pub record Last (p : PropId) (events : List Event) : Type 0 where
+  pub before : List Event
+  pub parts : events ≡ before ++ Broke p ∷ []
+  pub none_before : first_broken before ≡ None
 
--- the property that an outcome breaks
-abbrev pub broken_by : Outcome → Option PropId
-broken_by Ended = None
-broken_by Cut = None
-broken_by OutOfFrames = None
-broken_by (Broken p) = Some p
+-- events see a break just where the outcome is one, and then it is the last of them
+abbrev pub IsEnd : Outcome → List Event → Type 0
+IsEnd Ended events = first_broken events ≡ None
+IsEnd Cut events = first_broken events ≡ None
+IsEnd OutOfFrames events = first_broken events ≡ None
+IsEnd (Broken p) events = Last p events
 
 -- an effect sees a break only where it ends by it
 abbrev pub IsNamed : Effect → Type 0
 IsNamed (Goes way s told rest) = first_broken told.events ≡ None
-IsNamed (Stops o told rest) = first_broken told.events ≡ broken_by o
+IsNamed (Stops o told rest) = IsEnd o told.events
 IsNamed TooFew = Unit {0}
 
 -- the same of f, on any choices
@@ -55,13 +54,27 @@ first_behind (Broke p ∷ a) b none = absurd (no_break p none)
 pub goes_named : (way : Way) (s : JointState) (told : Told) → first_broken told.events ≡ None → Named (Goes way s told)
 goes_named way s told none = record { at = λ c. none }
 
-pub stops_named : (o : Outcome) (told : Told) → first_broken told.events ≡ broken_by o → Named (Stops o told)
+pub stops_named : (o : Outcome) (told : Told) → IsEnd o told.events → Named (Stops o told)
 stops_named o told is = record { at = λ c. is }
+
+-- a property breaks at once
+pub broken_named : (p : PropId) → Named (broken p)
+broken_named p = record { at = λ c. record { before = []; parts = refl; none_before = refl } }
+
+end_behind : (o : Outcome) (a b : List Event) → first_broken a ≡ None → IsEnd o b → IsEnd o (a ++ b)
+end_behind Ended a b none is = first_behind a b none ∙ is
+end_behind Cut a b none is = first_behind a b none ∙ is
+end_behind OutOfFrames a b none is = first_behind a b none ∙ is
+end_behind (Broken p) a b none is = record {
+  before = a ++ is.before;
+  parts = ap (λ l. a ++ l) is.parts ∙ sym (append_assoc a is.before (Broke p ∷ []));
+  none_before = first_behind a is.before none ∙ is.none_before;
+}
 
 -- behind what was told without a break
 pub behind_named : (before : Told) (e : Effect) → first_broken before.events ≡ None → IsNamed e → IsNamed (preceded before e)
 behind_named before (Goes way s told rest) none is = first_behind before.events told.events none ∙ is
-behind_named before (Stops o told rest) none is = first_behind before.events told.events none ∙ is
+behind_named before (Stops o told rest) none is = end_behind o before.events told.events none is
 behind_named before TooFew none is = tt
 
 then_at : (e : Effect) (go : Onward) → IsNamed e → Steady go → IsNamed (then_do e go)
@@ -100,11 +113,11 @@ groups_named f is = record { at = λ c. groups_at (f c) (is.at c) }
 pub check_named : (p : Option PropId) (test : Bool) (f : List ℕ → Effect) → Named f → Named (λ c. check_then p test c (f c))
 check_named None test f is = is
 check_named (Some p) true f is = is
-check_named (Some p) false f is = stops_named _ _ refl
+check_named (Some p) false f is = broken_named p
 
 pub value_named : (a : Answer) (go : ℤ → List ℕ → Effect) → ((n : ℤ) → Named (go n)) → Named (λ c. with_value a c (λ n. go n c))
 value_named (Value n) go h = h n
-value_named (Fault p) go h = stops_named _ _ refl
+value_named (Fault p) go h = broken_named p
 
 pub values_named : (rows : Rows) (es : List TExpr) (go : List ℤ → List ℕ → Effect) → ((ns : List ℤ) → Named (go ns)) → Named (λ c. with_values rows es c (λ ns. go ns c))
 values_named rows [] go h = h []

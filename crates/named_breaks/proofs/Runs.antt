@@ -1,5 +1,5 @@
 -- Runs see a break only where they end by it.
-use Rattle.std.proofs.Common.{ℕ, zero, suc, ◌+◌, List, [], ◌∷◌, ◌++◌, ◌≡◌, refl, subst}
+use Rattle.std.proofs.Common.{ℕ, zero, suc, ◌+◌, List, [], ◌∷◌, ◌++◌, ◌≡◌, refl, ap, ◌∙◌, subst}
 use Rattle.std.specs.Prelude.{◌-◌, ℤ, Option, Some, None, Bool, true, false, slice_get}
 use Rattle.src_text.specs.declared.refusal.Place.{Place}
 use Rattle.joint_ir.specs.declared.bounds.Bounds.{Bounds}
@@ -19,8 +19,8 @@ use Rattle.joint_ir.specs.Steps.{Calls, store_at, with_locals}
 use Rattle.joint_ir.specs.Statements.{ACTIVATIONS, set_params, closing, after_body, any_result, body_effect, entered_body, entered_function, is_below_limit, no_calls, calls_at}
 use Rattle.joint_ir.specs.Runs.{draw_registers, body_of, main_effect, ended, run_of}
 use Rattle.trace_text.specs.Trace.{broken_prop}
-use Rattle.named_breaks.specs.Named.{NamedBreaks}
-use Rattle.named_breaks.proofs.Parts.{first_broken, IsNamed, Named, Steady, behind_named, goes_named, stops_named, then_named, draw_named, draw_all_named}
+use Rattle.named_breaks.specs.Named.{first_broken, NamedBreaks}
+use Rattle.named_breaks.proofs.Parts.{Last, IsNamed, Named, Steady, behind_named, goes_named, broken_named, then_named, draw_named, draw_all_named}
 use Rattle.named_breaks.proofs.Statements.{CallsSteady, at_named, after_steady}
 
 params_steady : (line x : ℕ) (args : List ℤ) → Steady (set_params line x args)
@@ -57,7 +57,7 @@ module _ (pair : Pair) (b : Bounds) where
   entered_steady : (inner : Calls) → CallsSteady inner → (may_enter : Bool) (f : ℕ) (fn : Function) (body : Option TStmt) (p : Place) (args : List ℤ) → Steady (entered_body pair b may_enter inner f fn body p args)
   entered_steady inner x may_enter f fn None p args = any_steady fn.result
   entered_steady inner x true f fn (Some body) p args = body_steady inner x f fn body p args
-  entered_steady inner x false f fn (Some body) p args = λ s. stops_named _ _ refl
+  entered_steady inner x false f fn (Some body) p args = λ s. broken_named _
 
   function_steady : (may_enter : Function → Bool) (inner : Calls) → CallsSteady inner → (f : ℕ) (fn : Option Function) (p : Place) (args : List ℤ) → Steady (entered_function pair b may_enter inner f fn p args)
   function_steady may_enter inner x f None p args = λ s. goes_named Next s nothing refl
@@ -98,13 +98,23 @@ run_named pair b =
     draw_all_named (site_widths pair.module.settle_sites) _ (λ unknown.
     ended_named _ (then_named (Goes Next _ (seen (Frame 0 (shown pair.module _)))) go (goes_named Next _ _ refl) (main_steady pair b (body_of (slice_get pair.program.functions pair.program.main)))))))
 
--- the property that is named first is the first that breaks
-first_named : (events : List Event) (p : PropId) → first_broken events ≡ Some p → broken_prop events ≡ p
-first_named [] p is = cc
-first_named (Frame n shown ∷ events) p is = first_named events p is
-first_named (Driven shown ∷ events) p is = first_named events p is
-first_named (Stored line slot index value ∷ events) p is = first_named events p is
-first_named (Broke q ∷ events) p is = cc
+-- the property that is named is the one whose break is the last event, if none stands before it
+named_behind : (before : List Event) (p : PropId) → first_broken before ≡ None → broken_prop (before ++ Broke p ∷ []) ≡ p
+named_behind [] p none = refl
+named_behind (Frame n shown ∷ before) p none = named_behind before p none
+named_behind (Driven shown ∷ before) p none = named_behind before p none
+named_behind (Stored line slot index value ∷ before) p none = named_behind before p none
+named_behind (Broke q ∷ before) p none = absurd (no_break q none)
+  where
+    no_break : (q : PropId) → Some q ≡ None → ⊥
+    no_break q e = cc
 
 pub break_named : NamedBreaks
-break_named pair b choices p told rest is = first_named told.events p (subst IsNamed is ((run_named pair b).at choices))
+break_named pair b choices p told rest is =
+    let last : Last p told.events = subst IsNamed is ((run_named pair b).at choices) in
+    record {
+      before = last.before;
+      parts = last.parts;
+      none_before = last.none_before;
+      named = ap broken_prop last.parts ∙ named_behind last.before p last.none_before;
+    }

@@ -21,13 +21,13 @@ use Rattle.joint_ir.specs.Types.{converted}
 use Rattle.joint_ir.specs.Values.{Answer, binary_value, value_of, is_zero}
 use Rattle.joint_ir.specs.Views.{widths_of, site_widths}
 use Rattle.joint_ir.specs.States.{JointState}
-use Rattle.joint_ir.specs.declared.event.Event.TheVariants.{Stored, Broke}
-use Rattle.joint_ir.specs.declared.event.Outcome.TheVariants.{Broken, Cut, OutOfFrames}
+use Rattle.joint_ir.specs.declared.event.Event.TheVariants.{Stored}
+use Rattle.joint_ir.specs.declared.event.Outcome.TheVariants.{Cut, OutOfFrames}
 use Rattle.joint_ir.specs.Effects.{Effect, Onward, Goes, Stops, nothing, seen, broken, then_do, with_value}
 use Rattle.joint_ir.specs.declared.way.Way.TheVariants.{Next, Breaking, Continuing, Returning}
 use Rattle.joint_ir.specs.Steps.{Setting, Calls, element_of, rows_in, call_effect, with_init, with_index, within_bounds, right_value, slot_type, store_at, store_effect, update_effect, free_elements, set_elements, declare_object, declare_var, return_effect, set_inputs, clock_edge, next_frame}
 use Rattle.joint_ir.specs.Statements.{tested, turns, loop_effect, at_entry, entered, after, after_row, after_other, after_loop, groups_from, after_group}
-use Rattle.named_breaks.proofs.Parts.{Named, Steady, goes_named, stops_named, then_named, turn_named, groups_named, check_named, value_named, values_named, draw_named, draw_all_named, if_named}
+use Rattle.named_breaks.proofs.Parts.{Named, Steady, goes_named, stops_named, broken_named, then_named, turn_named, groups_named, check_named, value_named, values_named, draw_named, draw_all_named, if_named}
 
 -- calls see a break only where they end by it
 abbrev pub CallsSteady : Calls → Type 0
@@ -49,7 +49,7 @@ tested_steady : (test : JointState → Answer) (go : Onward) → Steady go → S
 tested_steady test go h = λ s. value_named (test s) _ (λ n. if_named (is_zero n) (Goes Next s nothing) (go s) (goes_named Next s nothing refl) (h s))
 
 turns_steady : (n : ℕ) (test : JointState → Answer) (body step : Onward) (p : PropId) → Steady body → Steady step → Steady (turns n test body step p)
-turns_steady zero test body step p x y = λ s. stops_named (Broken p) (seen (Broke p)) refl
+turns_steady zero test body step p x y = λ s. broken_named p
 turns_steady (suc n) test body step p x y = λ s.
     turn_named (body s) _ (x s) (steady_then step (tested test (turns n test body step p)) y (tested_steady test (turns n test body step p) (turns_steady n test body step p x y)))
 
@@ -95,7 +95,7 @@ module _ (k : Setting) where
 
   frame_steady : (p : PropId) → Steady (next_frame k p)
   frame_steady p = λ s. if_named (nat_lt s.edges k.bounds.frames) (clock_edge k s) _ (edge_steady s)
-      (if_named k.bounds.check_bound (broken p) (Stops OutOfFrames nothing) (stops_named (Broken p) (seen (Broke p)) refl) (stops_named OutOfFrames nothing refl))
+      (if_named k.bounds.check_bound (broken p) (Stops OutOfFrames nothing) (broken_named p) (stops_named OutOfFrames nothing refl))
 
   module _ (calls : Calls) (b : CallsSteady calls) where
     call_steady : (call : TCall) → Steady (call_effect k calls call)
@@ -146,7 +146,7 @@ module _ (k : Setting) where
       after_steady p Continue = λ s. goes_named Continuing s nothing refl
       after_steady p (Return init) = return_steady init
       after_steady p (Assert e prop) = λ s. value_named (value_of (rows_in k s) e) (λ n c. if is_zero n then broken prop c else Goes Next s nothing c)
-          (λ n. if_named (is_zero n) (broken prop) (Goes Next s nothing) (stops_named (Broken prop) (seen (Broke prop)) refl) (goes_named Next s nothing refl))
+          (λ n. if_named (is_zero n) (broken prop) (Goes Next s nothing) (broken_named prop) (goes_named Next s nothing refl))
       after_steady p (Assume e) = λ s. value_named (value_of (rows_in k s) e) (λ n c. if is_zero n then Stops Cut nothing c else Goes Next s nothing c)
           (λ n. if_named (is_zero n) (Stops Cut nothing) (Goes Next s nothing) (stops_named Cut nothing refl) (goes_named Next s nothing refl))
       after_steady p SetInputs = inputs_steady
