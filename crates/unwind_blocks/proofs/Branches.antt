@@ -6,14 +6,15 @@ use Rattle.bits_core.specs.Word.{number, bit, at_zero}
 use Rattle.word_eqs.specs.Graph.{Graph, IsGraph}
 use Rattle.joint_ir.specs.declared.ctype.IntType.{IntType}
 use Rattle.joint_ir.specs.declared.expr.TExpr.{TExpr}
-use Rattle.joint_ir.specs.declared.stmt.SNode.{SNode}
+use Rattle.joint_ir.specs.declared.stmt.SNode.{SNode, Declare}
+use Rattle.joint_ir.specs.declared.stmt.TInit.{TInit}
 use Rattle.joint_ir.specs.declared.stmt.TStmt.{TStmt}
 use Rattle.joint_ir.specs.declared.way.Way.{Way}
 use Rattle.joint_ir.specs.declared.way.Way.TheVariants.{Next, Breaking, Continuing, Returning}
 use Rattle.joint_ir.specs.Effects.{Effect, Onward, with_value}
 use Rattle.joint_ir.specs.States.{JointState}
 use Rattle.joint_ir.specs.Statements.{after}
-use Rattle.joint_ir.specs.Steps.{rows_in, slot_type}
+use Rattle.joint_ir.specs.Steps.{rows_in, slot_type, declare_effect}
 use Rattle.joint_ir.specs.Values.{value_of, is_zero}
 use Rattle.joint_ir.specs.WellFormed.{Scope, FitsExpr, FitsStmt, declared_behind}
 use Rattle.joint_lists.specs.Lists.{after_items, FitsItems}
@@ -151,6 +152,13 @@ module _ (a : Activation) where
       run ≡ after (setting_of a) (calls_in a) t.place t.node → IsDone a n0 n1 s0 s1 g f xs xs run →
       IsUnwound a n0 n1 s0 s1 g f xs (declared_behind t.node xs) (after (setting_of a) (calls_in a) t.place t.node)
   done_at n0 n1 s0 s1 g f xs t node run is none e D = unwound_at n0 n1 s0 s1 g f xs t node run is none e (unwound n0 n1 s0 s1 g f xs xs run D)
+
+  -- a declaration, as the tree has it
+  pub done_declared : (n0 n1 : Unrolled) (s0 s1 : State) (g : Guard) (f : Flow) (xs : List ℕ) (t : TStmt) (x : ℕ) (init : TInit) → t.node ≡ Declare x init →
+      IsDone a n0 n1 s0 s1 g f xs (x ∷ xs) (declare_effect (setting_of a) (calls_in a) t.place.line x init) → IsUnwound a n0 n1 s0 s1 g f xs (declared_behind t.node xs) (after (setting_of a) (calls_in a) t.place t.node)
+  done_declared n0 n1 s0 s1 g f xs t x init is D =
+      subst (λ (m : SNode). IsUnwound a n0 n1 s0 s1 g f xs (declared_behind m xs) (after (setting_of a) (calls_in a) t.place m)) (sym is)
+      (unwound n0 n1 s0 s1 g f xs (x ∷ xs) (declare_effect (setting_of a) (calls_in a) t.place.line x init) D)
 
   -- fewer locals are asked for behind a statement
   pub done_fewer : (n0 n1 : Unrolled) (s0 s1 : State) (g : Guard) (f : Flow) (xs ys : List ℕ) (run : Onward) → ((j : ℕ) → Contains xs j → Contains ys j) → IsUnwound a n0 n1 s0 s1 g f xs ys run → IsUnwound a n0 n1 s0 s1 g f xs xs run

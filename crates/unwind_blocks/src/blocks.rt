@@ -9,13 +9,14 @@ ghost use Rattle.unwind_blocks.specs.Blocks.{IsUnwound, AreUnwound, behind_items
 ghost use Rattle.unwind_blocks.specs.Loops.{FitsTurn, IsPart, turn_of, loop_in};
 
 use crate::loops::{begun, ended, test};
-use crate::tests_of::{plain_store, tested};
+use crate::tests_of::tested;
 use joint_ir::{SNode, TLoop, TStmt, Way, lookup};
 use sqlite_items::Boxed;
 use std::alloc::{AllocError, Global};
 use unrolled::Unrolled;
 use unwind_simple::{Activation, assert, assume, called, give_back};
 use unwind_state::{Flow, Guard, State, joined, merged, turned};
+use unwind_stores::{declare, store, update};
 
 /// A statement under a guard, with the guards of the ways on. Those that aren't made yet end as want of memory does.
 #[cycle(blocks)]
@@ -37,8 +38,16 @@ pub fn stmt(
             let f = block(alloc, net, at, state, items.as_slice(), guard)?;
             Ok(f)
         }
+        SNode::Declare(local, init) => {
+            let f = declare(net, at, state, *local, init, guard)?;
+            Ok(f)
+        }
         SNode::Store(target, init) => {
-            let f = plain_store(net, at, state, target, init, guard)?;
+            let f = store(net, at, state, target, init, guard)?;
+            Ok(f)
+        }
+        SNode::Update(target, u) => {
+            let f = update(net, at, state, target, u, guard)?;
             Ok(f)
         }
         SNode::Call(call) => {

@@ -4,13 +4,13 @@ use Rattle.std.proofs.lemmas.Grind.{common_steps}
 use Rattle.std.proofs.lemmas.List.{drop_more}
 use Rattle.std.proofs.Math.ListN.{drop_of_length-le}
 use Rattle.joint_ir.specs.declared.expr.TExpr.{TExpr}
-use Rattle.joint_ir.specs.declared.stmt.SNode.{the_lemmas, Block, Store, Call, If, Loop, Break, Continue, Return, Assert, Assume}
+use Rattle.joint_ir.specs.declared.stmt.SNode.{the_lemmas, Block, Declare, Store, Update, Call, If, Loop, Break, Continue, Return, Assert, Assume}
 use Rattle.joint_ir.specs.declared.stmt.TLoop.{out-TLoop}
 use Rattle.joint_ir.specs.declared.stmt.TStmt.{TStmt}
 use Rattle.joint_ir.specs.declared.way.Way.TheVariants.{Next, Breaking, Continuing}
 use Rattle.joint_ir.specs.Statements.{after, after_loop}
 use Rattle.joint_ir.specs.declared.program.CProgram.{CProgram}
-use Rattle.joint_ir.specs.Steps.{call_effect, return_effect, slot_type, store_effect}
+use Rattle.joint_ir.specs.Steps.{call_effect, return_effect, slot_type, store_effect, update_effect}
 use Rattle.joint_ir.specs.WellFormed.{Scope, FitsExpr, FitsInit, FitsStmt, declared_behind}
 use Rattle.joint_lists.specs.Lists.{after_items, after_option, FitsOptional}
 use Rattle.joint_lists.proofs.Rows.{after-block, after-if}
@@ -19,7 +19,7 @@ use Rattle.trails.specs.Following.{goes}
 use Rattle.unwind_simple.specs.Simple.{setting_of, calls_in, asserted_as, assumed_as}
 use Rattle.unwind_simple.proofs.Statements.{grown_result}
 use Rattle.unwind_blocks.proofs.Orders.{Sofar, scope_behind, next_fits, declares, stays}
-use Rattle.unwind_blocks.proofs.Branches.{grows_adds, grows_then, guard_grows, flow_grows, objects_grow, tested_grows, done_if, done_as, done_at, done_block, done_fewer, done_way, unwound_at, breaks, continues, sofar_first, sofar_more, sofar_last}
+use Rattle.unwind_blocks.proofs.Branches.{grows_adds, grows_then, guard_grows, flow_grows, objects_grow, tested_grows, done_if, done_as, done_at, done_declared, done_block, done_fewer, done_way, unwound_at, breaks, continues, sofar_first, sofar_more, sofar_last}
 use Rattle.unwind_blocks.proofs.Turns.{left_first, left_more, left_over, done_loop, inner_of, fits_heads, fits_turns, fits_last, last_simple, turn_made}
 use Rattle.unwind_blocks.specs.Blocks.{IsUnwound}
 use Rattle.unwind_blocks.proofs.blocks.+blocks.Goals as goal
@@ -139,11 +139,39 @@ stmt-returns-in_ok-f-in-Block t c =
     (done_block at c.args.net.now c.block.new.net c.args.state.now c.block.new.state c.as_slice.result.now c.args.guard c.in_ok-f-in-Block.f d.locals (after_items k (calls_in at) c.as_slice.result.now)
     (c.in_ok-f-in-Block.ensures d inside (fits-block d s.node c.in-Block.items c.as_slice.result.now c.in-Block.is c.as_slice.ensures fits)))
 
-pub stmt-plain_store-requires : goal.stmt-plain_store-requires
-stmt-plain_store-requires t c =
+pub stmt-store-requires : goal.stmt-store-requires
+stmt-store-requires t c =
     let d = c.requires.scope in
     let F = subst (FitsStmt d) c.in-Store.is c.requires.fits in
     record { well = c.requires.well; scope = d; program = c.requires.program; fits = (F.0, subst (λ (p : CProgram). FitsInit d false (slot_type p c.in-Store.target.slot) c.in-Store.init) c.requires.program.0 F.1); objects = c.requires.objects; result = c.requires.result; guard = c.requires.guard }
+
+pub stmt-declare-requires : goal.stmt-declare-requires
+stmt-declare-requires t c =
+    record { well = c.requires.well; scope = c.requires.scope; program = c.requires.program; fits = subst (FitsStmt c.requires.scope) c.in-Declare.is c.requires.fits; objects = c.requires.objects; result = c.requires.result; guard = c.requires.guard }
+
+pub stmt-returns-in_ok-f-in-Declare : goal.stmt-returns-in_ok-f-in-Declare
+stmt-returns-in_ok-f-in-Declare t c =
+    let at = c.args.at.now in
+    let k = setting_of at in
+    let s = c.args.s.now in
+    λ d inside fits.
+    done_declared at c.args.net.now c.declare.new.net c.args.state.now c.declare.new.state c.args.guard c.in_ok-f-in-Declare.f d.locals s c.in-Declare.local c.in-Declare.init c.in-Declare.is
+    (c.in_ok-f-in-Declare.ensures s.place.line d inside (subst (FitsStmt d) c.in-Declare.is fits))
+
+pub stmt-update-requires : goal.stmt-update-requires
+stmt-update-requires t c =
+    let F = subst (FitsStmt c.requires.scope) c.in-Update.is c.requires.fits in
+    record { well = c.requires.well; scope = c.requires.scope; program = c.requires.program; fits = record { target_fits = F.0; update_fits = F.1 }; objects = c.requires.objects; result = c.requires.result; guard = c.requires.guard }
+
+pub stmt-returns-in_ok-f-in-Update : goal.stmt-returns-in_ok-f-in-Update
+stmt-returns-in_ok-f-in-Update t c =
+    let at = c.args.at.now in
+    let k = setting_of at in
+    let s = c.args.s.now in
+    λ d inside fits.
+    let F = subst (FitsStmt d) c.in-Update.is fits in
+    done_at at c.args.net.now c.update.new.net c.args.state.now c.update.new.state c.args.guard c.in_ok-f-in-Update.f d.locals s (Update c.in-Update.target c.in-Update.u) (update_effect k c.in-Update.target c.in-Update.u) c.in-Update.is refl
+    (ap (after k (calls_in at) s.place) (sym c.in-Update.is)) (c.in_ok-f-in-Update.ensures d inside F.0 F.1)
 
 pub stmt-called-requires : goal.stmt-called-requires
 stmt-called-requires t c =
@@ -178,7 +206,7 @@ stmt-returns-in_ok-f-in-Store t c =
     let s = c.args.s.now in
     λ d inside fits.
     let F = subst (FitsStmt d) c.in-Store.is fits in
-    done_at at c.args.net.now c.plain_store.new.net c.args.state.now c.plain_store.new.state c.args.guard c.in_ok-f-in-Store.f d.locals s (Store c.in-Store.target c.in-Store.init) (store_effect k (calls_in at) c.in-Store.target c.in-Store.init) c.in-Store.is refl
+    done_at at c.args.net.now c.store.new.net c.args.state.now c.store.new.state c.args.guard c.in_ok-f-in-Store.f d.locals s (Store c.in-Store.target c.in-Store.init) (store_effect k (calls_in at) c.in-Store.target c.in-Store.init) c.in-Store.is refl
     (ap (after k (calls_in at) s.place) (sym c.in-Store.is)) (c.in_ok-f-in-Store.ensures d inside F.0 (subst (λ (p : CProgram). FitsInit d false (slot_type p c.in-Store.target.slot) c.in-Store.init) inside.0 F.1))
 
 pub stmt-returns-in_ok-f-in-If : goal.stmt-returns-in_ok-f-in-If
