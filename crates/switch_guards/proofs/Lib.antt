@@ -1,0 +1,4 @@
+pub mod Bits
+pub mod Entering
+pub mod Flows
+pub mod Placing
