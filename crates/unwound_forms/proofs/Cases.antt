@@ -4,6 +4,7 @@ use Rattle.std.specs.Prelude.{Option, Some, None, ◌&&◌}
 use Rattle.std.proofs.lemmas.List.{drop_more}
 use denote.Hole.Carrier.{hidden, out, shown}
 use Rattle.joint_ir.specs.declared.expr.TExpr.{TExpr}
+use Rattle.joint_ir.specs.declared.program.CProgram.{CProgram}
 use Rattle.joint_ir.specs.declared.program.Function.{Function}
 use Rattle.joint_ir.specs.declared.stmt.SNode.{SNode, Block, If, Row_of-TStmt, end_of-TStmt, more_of-TStmt, None', Some'}
 use Rattle.joint_ir.specs.declared.stmt.SNode.TheBlock.{hidden-the_row-TStmt-0, hidden-the_row-TStmt-1, items-the_row-TStmt, items_hidden-the_row-TStmt-0, items_shown-the_row-TStmt-0, shown-the_row-TStmt-0, shown-the_row-TStmt-1}
@@ -11,34 +12,35 @@ use Rattle.joint_ir.specs.declared.stmt.TLoop.{TLoop, TLoop', out-TLoop}
 use Rattle.joint_ir.specs.declared.stmt.TStmt.{TStmt}
 use Rattle.unwound_forms.specs.Made.{stmt_is_made, row_is_made, loop_is_made, items_are_made, option_is_made, function_is_made, functions_are_made}
 
-row_made : {m : _} (row : Row_of-TStmt m) → row_is_made row ≡ items_are_made (items-the_row-TStmt _ row)
-row_made end_of-TStmt = refl
-row_made (more_of-TStmt p a rest) = ap (λ b. stmt_is_made a && b) (row_made rest)
+module _ (p : CProgram) where
+  row_made : {m : _} (row : Row_of-TStmt m) → row_is_made p row ≡ items_are_made p (items-the_row-TStmt _ row)
+  row_made end_of-TStmt = refl
+  row_made (more_of-TStmt q a rest) = ap (λ b. stmt_is_made p a && b) (row_made rest)
 
-pub block_made : (node : SNode) (items got : List TStmt) → node ≡ Block items → got ≡ items → stmt_is_made node ≡ items_are_made got
-block_made node items got is is_got = ap stmt_is_made is ∙ row_made (hidden-the_row-TStmt-0 items) ∙ ap items_are_made (items_hidden-the_row-TStmt-0 items ∙ sym is_got)
+  pub block_made : (node : SNode) (items got : List TStmt) → node ≡ Block items → got ≡ items → stmt_is_made p node ≡ items_are_made p got
+  block_made node items got is is_got = ap (stmt_is_made p) is ∙ row_made (hidden-the_row-TStmt-0 items) ∙ ap (items_are_made p) (items_hidden-the_row-TStmt-0 items ∙ sym is_got)
 
-if_made_of : (e : TExpr) (a : TStmt) (other : Option TStmt) → stmt_is_made (If e a other) ≡ stmt_is_made a.node && option_is_made other
-unfolding hidden-the_row-TStmt-0 hidden-the_row-TStmt-1 hidden
-if_made_of e a None = refl
-if_made_of e a (Some b) = refl
+  if_made_of : (e : TExpr) (a : TStmt) (other : Option TStmt) → stmt_is_made p (If e a other) ≡ stmt_is_made p a.node && option_is_made p other
+  unfolding hidden-the_row-TStmt-0 hidden-the_row-TStmt-1 hidden
+  if_made_of e a None = refl
+  if_made_of e a (Some b) = refl
 
-pub if_made : (node : SNode) (e : TExpr) (a got : TStmt) (other : Option TStmt) → node ≡ If e a other → got ≡ a → stmt_is_made node ≡ stmt_is_made got.node && option_is_made other
-if_made node e a got other is is_a = ap stmt_is_made (is ∙ ap (λ x. If e x other) (sym is_a)) ∙ if_made_of e got other
+  pub if_made : (node : SNode) (e : TExpr) (a got : TStmt) (other : Option TStmt) → node ≡ If e a other → got ≡ a → stmt_is_made p node ≡ stmt_is_made p got.node && option_is_made p other
+  if_made node e a got other is is_a = ap (stmt_is_made p) (is ∙ ap (λ x. If e x other) (sym is_a)) ∙ if_made_of e got other
 
-pub loop_made : (l : TLoop) → loop_is_made l ≡ items_are_made (out-TLoop l).heads && (stmt_is_made (out-TLoop l).body.node && option_is_made (out-TLoop l).step)
-unfolding out-TLoop out shown shown-the_row-TStmt-0 shown-the_row-TStmt-1
-loop_made (TLoop' t shape heads cond None' shape' (more_of-TStmt p body end) prop) =
-    ap (λ b. b && (stmt_is_made body && true)) (row_made heads ∙ ap items_are_made (sym (items_shown-the_row-TStmt-0 shape heads)))
-loop_made (TLoop' t shape heads cond (Some' shape'' (more_of-TStmt q step end')) shape' (more_of-TStmt p body end) prop) =
-    ap (λ b. b && (stmt_is_made body && stmt_is_made step)) (row_made heads ∙ ap items_are_made (sym (items_shown-the_row-TStmt-0 shape heads)))
+  pub loop_made : (l : TLoop) → loop_is_made p l ≡ items_are_made p (out-TLoop l).heads && (stmt_is_made p (out-TLoop l).body.node && option_is_made p (out-TLoop l).step)
+  unfolding out-TLoop out shown shown-the_row-TStmt-0 shown-the_row-TStmt-1
+  loop_made (TLoop' t shape heads cond None' shape' (more_of-TStmt q body end) prop) =
+      ap (λ b. b && (stmt_is_made p body && true)) (row_made heads ∙ ap (items_are_made p) (sym (items_shown-the_row-TStmt-0 shape heads)))
+  loop_made (TLoop' t shape heads cond (Some' shape'' (more_of-TStmt r step end')) shape' (more_of-TStmt q body end) prop) =
+      ap (λ b. b && (stmt_is_made p body && stmt_is_made p step)) (row_made heads ∙ ap (items_are_made p) (sym (items_shown-the_row-TStmt-0 shape heads)))
 
--- one statement more, and one function more
-pub items_more : (items : List TStmt) (i : ℕ) (s : TStmt) → i < length items → s ≡ get_or items i s → items_are_made (drop i items) ≡ stmt_is_made s.node && items_are_made (drop (i + 1) items)
-items_more items i s lt is = ap items_are_made (drop_more items i s lt) ∙ ap (λ (x : TStmt). stmt_is_made x.node && items_are_made (drop (i + 1) items)) (sym is)
+  -- one statement more, and one function more
+  pub items_more : (items : List TStmt) (i : ℕ) (s : TStmt) → i < length items → s ≡ get_or items i s → items_are_made p (drop i items) ≡ stmt_is_made p s.node && items_are_made p (drop (i + 1) items)
+  items_more items i s lt is = ap (items_are_made p) (drop_more items i s lt) ∙ ap (λ (x : TStmt). stmt_is_made p x.node && items_are_made p (drop (i + 1) items)) (sym is)
 
-pub functions_more : (fns : List Function) (i : ℕ) (fn : Function) → i < length fns → fn ≡ get_or fns i fn → functions_are_made (drop i fns) ≡ function_is_made fn && functions_are_made (drop (i + 1) fns)
-functions_more fns i fn lt is = ap functions_are_made (drop_more fns i fn lt) ∙ ap (λ (x : Function). function_is_made x && functions_are_made (drop (i + 1) fns)) (sym is)
+  pub functions_more : (fns : List Function) (i : ℕ) (fn : Function) → i < length fns → fn ≡ get_or fns i fn → functions_are_made p (drop i fns) ≡ function_is_made p fn && functions_are_made p (drop (i + 1) fns)
+  functions_more fns i fn lt is = ap (functions_are_made p) (drop_more fns i fn lt) ∙ ap (λ (x : Function). function_is_made p x && functions_are_made p (drop (i + 1) fns)) (sym is)
 
 -- the value of both of two, by the code's tests
 pub both_true : (a b x y e : Bool) → x ≡ a → x ≡ true → y ≡ b → e ≡ a && b → y ≡ e

@@ -1,14 +1,18 @@
 -- Which statements are of forms that are unwound today. A form more is a line more of `stmt_is_made`.
-use Rattle.std.specs.Prelude.{Bool, true, false, ◌&&◌, List, [], ◌∷◌, Option, Some, None}
+use Rattle.std.specs.Prelude.{ℕ, nat_eq, Bool, true, false, ◌&&◌, List, [], ◌∷◌, Option, Some, None, slice_get}
+use Rattle.joint_ir.specs.declared.ctype.IntType.{IntType}
 use Rattle.joint_ir.specs.declared.program.CProgram.{CProgram}
 use Rattle.joint_ir.specs.declared.program.Function.{Function}
 use Rattle.joint_ir.specs.declared.stmt.SNode.{SNode, Block', Declare, Store, Update, Call, If', Loop, Switch', Break, Continue, Return, Assert, Assume, SetInputs, NextFrame, Row_of-TStmt, end_of-TStmt, more_of-TStmt, Held-SNode-If-2, None', Some'}
+use Rattle.joint_ir.specs.declared.stmt.TCall.{TCall}
 use Rattle.joint_ir.specs.declared.stmt.TInit.{TInit}
 use Rattle.joint_ir.specs.declared.stmt.TInit.TheVariants.{Free, Values, Called}
 use Rattle.joint_ir.specs.declared.stmt.TLoop.{TLoop, TLoop'}
 use Rattle.joint_ir.specs.declared.stmt.TStmt.{TStmt}
 use Rattle.joint_ir.specs.declared.stmt.TTarget.{TTarget}
 use Rattle.joint_ir.specs.declared.expr.TExpr.{TExpr}
+use Rattle.joint_ir.specs.declared.expr.Slot.TheVariants.{Local}
+use Rattle.joint_ir.specs.Weights.{slot_length}
 
 -- one expression
 abbrev pub is_one : List TExpr → Bool
@@ -16,69 +20,95 @@ is_one [] = false
 is_one (e ∷ []) = true
 is_one (e ∷ e' ∷ es) = false
 
--- no index
+-- a function without a body, which gives any number of its result's type; it has no parameters
+abbrev pub opens : Option TStmt → Option IntType → Bool
+opens (Some body) result = false
+opens None None = false
+opens None (Some t) = true
+
+abbrev pub is_open : Option Function → Bool
+is_open None = false
+is_open (Some fn) = opens fn.body fn.result
+
+-- a call of such a function
+abbrev pub call_is_made : CProgram → TCall → Bool
+call_is_made p call = is_open (slice_get p.functions call.function)
+
+-- what an object is set to, or what is returned
+abbrev pub init_is_made : CProgram → TInit → Bool
+init_is_made p Free = true
+init_is_made p (Values es) = is_one es
+init_is_made p (Called call) = call_is_made p call
+
+-- what a `return` gives, if anything
+abbrev pub return_is_made : CProgram → Option TInit → Bool
+return_is_made p None = true
+return_is_made p (Some init) = init_is_made p init
+
+-- a declaration of a local that is no array
+abbrev pub declare_is_made : CProgram → ℕ → TInit → Bool
+declare_is_made p x init = nat_eq (slot_length p (Local x)) 0 && init_is_made p init
+
+-- an update of an object that is no array
 abbrev pub is_plain : Option TExpr → Bool
 is_plain None = true
 is_plain (Some e) = false
 
--- a store of the value of one expression, to an object that is no array
-abbrev pub store_is_made : TTarget → TInit → Bool
-store_is_made target Free = false
-store_is_made target (Values es) = is_one es && is_plain target.index
-store_is_made target (Called call) = false
+abbrev pub update_is_made : TTarget → Bool
+update_is_made target = is_plain target.index
 
 -- a statement, with all that stands in it
 abbrev mutual
-  pub stmt_is_made : SNode → Bool
-  stmt_is_made (Block' _ row) = row_is_made row
-  stmt_is_made (Declare x init) = false
-  stmt_is_made (Store target init) = store_is_made target init
-  stmt_is_made (Update target u) = false
-  stmt_is_made (Call call) = false
-  stmt_is_made (If' e _ (more_of-TStmt q a _) other) = stmt_is_made a && other_is_made other
-  stmt_is_made (Loop loop) = loop_is_made loop
-  stmt_is_made (Switch' e _ groups) = false
-  stmt_is_made Break = true
-  stmt_is_made Continue = true
-  stmt_is_made (Return init) = false
-  stmt_is_made (Assert e prop) = true
-  stmt_is_made (Assume e) = true
-  stmt_is_made SetInputs = false
-  stmt_is_made (NextFrame prop) = false
+  pub stmt_is_made : CProgram → SNode → Bool
+  stmt_is_made p (Block' _ row) = row_is_made p row
+  stmt_is_made p (Declare x init) = declare_is_made p x init
+  stmt_is_made p (Store target init) = init_is_made p init
+  stmt_is_made p (Update target u) = update_is_made target
+  stmt_is_made p (Call call) = call_is_made p call
+  stmt_is_made p (If' e _ (more_of-TStmt q a _) other) = stmt_is_made p a && other_is_made p other
+  stmt_is_made p (Loop loop) = loop_is_made p loop
+  stmt_is_made p (Switch' e _ groups) = false
+  stmt_is_made p Break = true
+  stmt_is_made p Continue = true
+  stmt_is_made p (Return init) = return_is_made p init
+  stmt_is_made p (Assert e prop) = true
+  stmt_is_made p (Assume e) = true
+  stmt_is_made p SetInputs = false
+  stmt_is_made p (NextFrame prop) = false
 
   -- statements one after another
-  pub row_is_made : {m : _} → Row_of-TStmt m → Bool
-  row_is_made end_of-TStmt = true
-  row_is_made (more_of-TStmt p a rest) = stmt_is_made a && row_is_made rest
+  pub row_is_made : {m : _} → CProgram → Row_of-TStmt m → Bool
+  row_is_made p end_of-TStmt = true
+  row_is_made p (more_of-TStmt q a rest) = stmt_is_made p a && row_is_made p rest
 
   -- the `else` part of an `if`, or the last part of a `for`, if there is one
-  pub other_is_made : Held-SNode-If-2 → Bool
-  other_is_made None' = true
-  other_is_made (Some' _ (more_of-TStmt p a _)) = stmt_is_made a
+  pub other_is_made : CProgram → Held-SNode-If-2 → Bool
+  other_is_made p None' = true
+  other_is_made p (Some' _ (more_of-TStmt q a _)) = stmt_is_made p a
 
   -- the first part of a loop, its body and its last part
-  pub loop_is_made : TLoop → Bool
-  loop_is_made (TLoop' tests_first _ heads cond step _ (more_of-TStmt p body _) prop) = row_is_made heads && (stmt_is_made body && other_is_made step)
+  pub loop_is_made : CProgram → TLoop → Bool
+  loop_is_made p (TLoop' tests_first _ heads cond step _ (more_of-TStmt q body _) prop) = row_is_made p heads && (stmt_is_made p body && other_is_made p step)
 
 -- statements, as a list
-abbrev pub items_are_made : List TStmt → Bool
-items_are_made [] = true
-items_are_made (x ∷ items) = stmt_is_made x.node && items_are_made items
+abbrev pub items_are_made : CProgram → List TStmt → Bool
+items_are_made p [] = true
+items_are_made p (x ∷ items) = stmt_is_made p x.node && items_are_made p items
 
 -- a statement that may be left out
-abbrev pub option_is_made : Option TStmt → Bool
-option_is_made None = true
-option_is_made (Some x) = stmt_is_made x.node
+abbrev pub option_is_made : CProgram → Option TStmt → Bool
+option_is_made p None = true
+option_is_made p (Some x) = stmt_is_made p x.node
 
 -- the body of a function, if it has one
-abbrev pub function_is_made : Function → Bool
-function_is_made fn = option_is_made fn.body
+abbrev pub function_is_made : CProgram → Function → Bool
+function_is_made p fn = option_is_made p fn.body
 
 -- functions
-abbrev pub functions_are_made : List Function → Bool
-functions_are_made [] = true
-functions_are_made (fn ∷ fns) = function_is_made fn && functions_are_made fns
+abbrev pub functions_are_made : CProgram → List Function → Bool
+functions_are_made p [] = true
+functions_are_made p (fn ∷ fns) = function_is_made p fn && functions_are_made p fns
 
 -- all functions of a program
 abbrev pub program_is_made : CProgram → Bool
-program_is_made p = functions_are_made p.functions
+program_is_made p = functions_are_made p p.functions

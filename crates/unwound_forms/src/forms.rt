@@ -1,31 +1,99 @@
 // The walk over a program's statements.
 
-ghost use Rattle.std.specs.Prelude.{◌≡◌};
-ghost use Rattle.unwound_forms.specs.Made.{stmt_is_made, items_are_made, option_is_made, loop_is_made, store_is_made, function_is_made, program_is_made};
+ghost use Rattle.std.specs.Prelude.{◌≡◌, nat_eq};
+ghost use Rattle.joint_ir.specs.declared.expr.Slot.TheVariants.{Local};
+ghost use Rattle.joint_ir.specs.Weights.{slot_length};
+ghost use Rattle.unwound_forms.specs.Made.{stmt_is_made, items_are_made, option_is_made, loop_is_made, opens, call_is_made, init_is_made, return_is_made, declare_is_made, update_is_made, function_is_made, program_is_made};
 
-use joint_ir::{CProgram, Function, SNode, TInit, TLoop, TStmt, TTarget};
+use joint_ir::{CProgram, Function, SNode, Slot, TCall, TInit, TLoop, TStmt, TTarget, lookup};
 use sqlite_items::Boxed;
 
-/// Whether a store is of the value of one expression, to an object that is no array.
-fn is_store_made(target: &TTarget, init: &TInit) -> bool
-    ensures { result ≡ store_is_made target.now init.now }
+/// Whether a function has no body and gives a result.
+fn is_open(function: &Function) -> bool
+    ensures { result ≡ opens function.now.body function.now.result }
+{
+    match &function.body {
+        Some(_) => false,
+        None => match function.result {
+            None => false,
+            Some(_) => true,
+        },
+    }
+}
+
+/// Whether a call is of a function without a body.
+fn is_call_made(program: &CProgram, call: &TCall) -> bool
+    ensures { result ≡ call_is_made program.now call.now }
+{
+    match program.functions.get(call.function as usize) {
+        None => false,
+        Some(function) => is_open(function),
+    }
+}
+
+/// Whether what an object is set to, or what is returned, is an expression's value or the result of such a call.
+fn is_init_made(program: &CProgram, init: &TInit) -> bool
+    ensures { result ≡ init_is_made program.now init.now }
 {
     match init {
-        TInit::Values(es) => es.len() == 1 && target.index.is_none(),
-        TInit::Free | TInit::Called(_) => false,
+        TInit::Free => true,
+        TInit::Values(es) => es.len() == 1,
+        TInit::Called(call) => is_call_made(program, call),
+    }
+}
+
+/// Whether what a `return` gives is.
+fn is_return_made(program: &CProgram, init: &Option<TInit>) -> bool
+    ensures { result ≡ return_is_made program.now init.now }
+{
+    match init {
+        None => true,
+        Some(init) => is_init_made(program, init),
+    }
+}
+
+/// Whether a local is no array.
+fn is_single(program: &CProgram, local: u32) -> bool
+    ensures { result ≡ nat_eq (slot_length program.now (Local local)) 0 }
+{
+    lookup::slot_length(program, Slot::Local(local)) == 0
+}
+
+/// Whether a declaration is of a local that is no array.
+fn is_declare_made(program: &CProgram, local: u32, init: &TInit) -> bool
+    ensures { result ≡ declare_is_made program.now local init.now }
+{
+    if !is_single(program, local) {
+        return false;
+    }
+    is_init_made(program, init)
+}
+
+/// Whether an update is of an object that is no array.
+fn is_update_made(target: &TTarget) -> bool
+    ensures { result ≡ update_is_made target.now }
+{
+    match &target.index {
+        None => true,
+        Some(_) => false,
     }
 }
 
 /// Whether a statement, with all that stands in it, is of forms that are unwound.
 #[cycle(forms)]
-fn is_stmt_made(s: &TStmt) -> bool
-    ensures { result ≡ stmt_is_made s.now.node }
+fn is_stmt_made(program: &CProgram, s: &TStmt) -> bool
+    ensures { result ≡ stmt_is_made program.now s.now.node }
 {
     match &s.node {
-        SNode::Block(items) => are_items_made(items.as_slice()),
-        SNode::Store(target, init) => is_store_made(target, init),
-        SNode::If(_, body, other) => is_stmt_made(body.get()) && is_option_made(other),
-        SNode::Loop(one) => is_loop_made(one),
+        SNode::Block(items) => are_items_made(program, items.as_slice()),
+        SNode::Declare(local, init) => is_declare_made(program, *local, init),
+        SNode::Store(_, init) => is_init_made(program, init),
+        SNode::Update(target, _) => is_update_made(target),
+        SNode::Call(call) => is_call_made(program, call),
+        SNode::Return(init) => is_return_made(program, init),
+        SNode::If(_, body, other) => is_stmt_made(program, body.get())
+            && is_option_made(program, other),
+        SNode::Loop(one) => is_loop_made(program, one),
         SNode::Break | SNode::Continue | SNode::Assert(..) | SNode::Assume(_) => true,
         _ => false,
     }
@@ -33,11 +101,11 @@ fn is_stmt_made(s: &TStmt) -> bool
 
 /// Whether statements one after another are.
 #[cycle(forms)]
-fn are_items_made(items: &[TStmt]) -> bool
-    ensures { result ≡ items_are_made items.now }
+fn are_items_made(program: &CProgram, items: &[TStmt]) -> bool
+    ensures { result ≡ items_are_made program.now items.now }
 {
     for s in items {
-        if !is_stmt_made(s) {
+        if !is_stmt_made(program, s) {
             return false;
         }
     }
@@ -46,36 +114,36 @@ fn are_items_made(items: &[TStmt]) -> bool
 
 /// Whether a statement that may be left out is.
 #[cycle(forms)]
-fn is_option_made(other: &Option<Boxed<TStmt>>) -> bool
-    ensures { result ≡ option_is_made other.now }
+fn is_option_made(program: &CProgram, other: &Option<Boxed<TStmt>>) -> bool
+    ensures { result ≡ option_is_made program.now other.now }
 {
     match other {
         None => true,
-        Some(s) => is_stmt_made(s.get()),
+        Some(s) => is_stmt_made(program, s.get()),
     }
 }
 
 /// Whether the parts of a loop are.
 #[cycle(forms)]
-fn is_loop_made(one: &TLoop) -> bool
-    ensures { result ≡ loop_is_made one.now }
+fn is_loop_made(program: &CProgram, one: &TLoop) -> bool
+    ensures { result ≡ loop_is_made program.now one.now }
 {
-    if !are_items_made(one.heads.as_slice()) {
+    if !are_items_made(program, one.heads.as_slice()) {
         return false;
     }
-    if !is_stmt_made(one.body.get()) {
+    if !is_stmt_made(program, one.body.get()) {
         return false;
     }
-    is_option_made(&one.step)
+    is_option_made(program, &one.step)
 }
 
 /// Whether the body of a function is, if it has one.
-fn is_function_made(function: &Function) -> bool
-    ensures { result ≡ function_is_made function.now }
+fn is_function_made(program: &CProgram, function: &Function) -> bool
+    ensures { result ≡ function_is_made program.now function.now }
 {
     match &function.body {
         None => true,
-        Some(body) => is_stmt_made(body),
+        Some(body) => is_stmt_made(program, body),
     }
 }
 
@@ -84,7 +152,7 @@ pub fn is_made(program: &CProgram) -> bool
     ensures { result ≡ program_is_made program.now }
 {
     for function in program.functions.as_slice() {
-        if !is_function_made(function) {
+        if !is_function_made(program, function) {
             return false;
         }
     }

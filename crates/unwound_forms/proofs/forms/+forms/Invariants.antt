@@ -15,4 +15,4 @@ abbrev pub decreases-is_loop_made : goal.decreases-is_loop_made
 decreases-is_loop_made l = 3 * goal.size-is_loop_made l + 4
 
 abbrev pub invariant-are_items_made-loop-s : goal.invariant-are_items_made-loop-s
-invariant-are_items_made-loop-s l = items_are_made l.items ≡ items_are_made (drop l.s-index l.items)
+invariant-are_items_made-loop-s l = items_are_made l.program l.items ≡ items_are_made l.program (drop l.s-index l.items)

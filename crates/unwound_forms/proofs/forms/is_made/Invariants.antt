@@ -3,4 +3,4 @@ use Rattle.unwound_forms.specs.Made.{functions_are_made}
 use Rattle.unwound_forms.proofs.forms.is_made.Given as goal
 
 abbrev pub invariant-loop-function : goal.invariant-loop-function
-invariant-loop-function l = functions_are_made l.program.functions ≡ functions_are_made (drop l.function-index l.program.functions)
+invariant-loop-function l = functions_are_made l.program l.program.functions ≡ functions_are_made l.program (drop l.function-index l.program.functions)
