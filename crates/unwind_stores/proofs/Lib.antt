@@ -5,3 +5,4 @@ pub mod Opening
 pub mod Declared
 pub mod Bounds
 pub mod Storing
+pub mod Elementwise

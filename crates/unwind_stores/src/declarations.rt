@@ -7,6 +7,7 @@ ghost use Rattle.joint_ir.specs.Weights.{slot_length};
 ghost use Rattle.joint_ir.specs.WellFormed.{Scope, FitsDeclare};
 ghost use Rattle.unwind_simple.specs.Simple.{IsDone, MayRun, calls_in, is_in, setting_of};
 
+use crate::arrays::declare_array;
 use joint_ir::{Slot, TInit, Way, lookup};
 use std::alloc::AllocError;
 use unrolled::Unrolled;
@@ -32,8 +33,7 @@ fn declare_object(
     Ok(Flow::only(Way::Next, guard))
 }
 
-/// A declaration of a local, which is set or takes any value (C99 6.8 paragraph 3). That of an array isn't made yet, and ends as
-/// want of memory does.
+/// A declaration of a local, which is set or takes any value (C99 6.8 paragraph 3).
 pub fn declare(
     net: &mut Unrolled,
     at: &Activation,
@@ -45,9 +45,11 @@ pub fn declare(
     requires { MayRun at.now net.old state.old guard (λ c. FitsDeclare c local init.now) }
     ensures { IfOk result (λ f. (line : ℕ) (c : Scope) → is_in at.now c → FitsDeclare c local init.now → IsDone at.now net.old net.new state.old state.new guard f c.locals (local ∷ c.locals) (declare_effect (setting_of at.now) (calls_in at.now) line local init.now)) }
 {
-    if lookup::slot_length(&at.pair.program, Slot::Local(local)) != 0 {
-        return Err(AllocError);
+    if lookup::slot_length(&at.pair.program, Slot::Local(local)) == 0 {
+        let f = declare_object(net, at, state, local, init, guard)?;
+        Ok(f)
+    } else {
+        let f = declare_array(net, at, state, local, init, guard)?;
+        Ok(f)
     }
-    let f = declare_object(net, at, state, local, init, guard)?;
-    Ok(f)
 }

@@ -1,6 +1,7 @@
 //! Updates, declarations, and stores through an index, unwound under a guard.
 #![tactic(auto)]
 
+mod arrays;
 mod declarations;
 mod elements;
 mod operators;
