@@ -1,6 +1,7 @@
 //! The command `hwcbmc` over the system's files and streams.
 #![tactic(auto)]
 
+use cdcl::{ActivityChooser, Chooser, Choosers, OrderChooser};
 use hwcbmc_core::run;
 use io_edge::{RealFiles, RealSink};
 use std::alloc::AllocError;
@@ -25,12 +26,24 @@ fn main(rt: HostRuntime) -> ExitCode {
 
 /// Runs the command on the words after the program's name. An error comes before it runs.
 fn run_words(rt: &HostRuntime) -> io::Result<u8> {
-    let mut words = Vec::new(rt.alloc());
+    let alloc = rt.alloc();
+    let mut words = Vec::new(alloc);
     for word in env::args(rt)?.skip(1) {
         words.push(word).map_err(AllocError::from)?;
     }
+    let order: Box<dyn Chooser> = Box::new(alloc, OrderChooser::new(alloc))?;
+    let activity: Box<dyn Chooser> = Box::new(alloc, ActivityChooser::new(alloc))?;
+    let choosers = Choosers { order, activity };
     let mut files = RealFiles::new(rt.clone()?);
     let mut out = RealSink::new(rt.stdout());
     let mut err = RealSink::new(rt.stderr());
-    Ok(run(rt.alloc(), words.as_slice(), &mut files, &mut out, &mut err))
+    let ran = run(
+        alloc,
+        words.as_slice(),
+        &mut files,
+        &mut out,
+        &mut err,
+        choosers,
+    );
+    Ok(ran.status)
 }

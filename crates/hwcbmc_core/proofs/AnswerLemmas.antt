@@ -1,5 +1,5 @@
 -- From what each part of the way ensures to the answer's being right.
-use Rattle.std.proofs.Common.{◌≡◌, ◌≢◌, ℕ, ◌<◌, ◌≤◌, List, length, Option, None, Some, inl, inr, ap, sym, ◌∙◌, subst, arith, refl, true}
+use Rattle.std.proofs.Common.{◌≡◌, ◌≢◌, ℕ, ◌<◌, ◌≤◌, List, length, Option, None, Some, inl, inr, ap, sym, ◌∙◌, subst, arith, refl, true, []}
 use Rattle.std.specs.Prelude.{IfSome, string_bytes}
 use Rattle.io_edge.specs.Faults.{Rose}
 use Rattle.io_edge.specs.Files.{Reading}
@@ -9,14 +9,26 @@ use Rattle.src_text.specs.declared.refusal.Lang.TheVariants.{C, V}
 use Rattle.src_text.specs.declared.refusal.Refusal.{Refusal}
 use Rattle.command_options.specs.declared.asked.Options.{Options}
 use Rattle.hwcbmc_core.specs.declared.answer.Answer.{Answer}
-use Rattle.hwcbmc_core.specs.declared.answer.Answer.TheVariants.{Usage, ReadFault, Refused, Failed, Successful, Memory}
+use Rattle.hwcbmc_core.specs.declared.answer.Answer.TheVariants.{Usage, ReadFault, Refused, Failed, Successful, Spent, Memory}
 use Rattle.hwcbmc_core.specs.declared.sources.Program.{Program}
 use Rattle.hwcbmc_core.specs.declared.sources.Counter.{Counter}
 use Rattle.hwcbmc_core.specs.Sources.{IsProgram, IsCounter}
 use Rattle.hwcbmc_core.proofs.SourceLemmas.{same_program, same_counter}
 use Rattle.hwcbmc_core.specs.Forms.{fit_forms}
-use Rattle.hwcbmc_core.specs.Answers.{FitsLength, AreRead, RefusesTexts, c_refused, v_refused, c_offends, options_unsupported, c_unsupported, v_unsupported, c_too_long, v_too_long, of_texts, unread, HoldsOf, Judges, IsTraceOfBreak, IsJudged, IsRightFor}
-use Rattle.hwcbmc_core.specs.Runs.{Property, CanBreak}
+use Rattle.hwcbmc_core.specs.Answers.{FitsLength, AreRead, OfBoth, RefusesTexts, c_refused, v_refused, c_offends, not_taken, too_heavy, options_unsupported, c_unsupported, v_unsupported, c_too_long, v_too_long, of_texts, unread, told_answer, HoldsOf, IsSuccessOf, IsFailureOf, IsSpentOf, IsJudged, IsRightFor}
+use Rattle.hwcbmc_core.specs.Pairs.{IsOtherModule, IsNotTaken, IsToldOf}
+use Rattle.c_tree.specs.declared.file.CTree.{CTree}
+use Rattle.v_tree.specs.declared.item.VTree.{VTree}
+use Rattle.c_parse.specs.Ends.{HasTree as HasCTree}
+use Rattle.v_parse.specs.Ends.{HasTree as HasVTree}
+use Rattle.c_types.specs.Files.{c_offences, program_of}
+use Rattle.joint_ir.specs.declared.program.CProgram.{CProgram}
+use Rattle.bare_pairs.specs.Bare.{pair_of}
+use Rattle.bare_sources.specs.declared.joined.Joined.TheVariants as joined
+use Rattle.bare_sources.specs.Joined.{IsJoined}
+use Rattle.bare_sources.specs.Taken.{bounds_for}
+use Rattle.verdicts.specs.declared.Told.{Told}
+use Rattle.verdicts.specs.declared.Told.TheVariants as told
 use Rattle.hwcbmc_core.specs.Trees.{HasTreeIn, IsRefused}
 use Rattle.hwcbmc_core.specs.Typing.{IsClean, Offends}
 
@@ -68,16 +80,15 @@ told_of : (P : List ℕ → Type 0) (told : Option (List ℕ)) (text : List ℕ)
 told_of P None text whole holds = tt
 told_of P (Some bytes) text whole holds = subst P whole holds
 
-judges_told : (options : Options) (told : List ℕ → Option (List ℕ)) (c_text v_text : List ℕ) (Holds : Program → Counter → Type 0)
-    → IfSome (told options.c_file) (λ bytes. c_text ≡ bytes) → IfSome (told options.v_file) (λ bytes. v_text ≡ bytes)
-    → HoldsOf options c_text v_text Holds → Judges options told Holds
-judges_told options told c_text v_text Holds c_whole v_whole judged =
-    told_of (λ c. IfSome (told options.v_file) (λ v. HoldsOf options c v Holds)) (told options.c_file) c_text c_whole
-    (told_of (λ v. HoldsOf options c_text v Holds) (told options.v_file) v_text v_whole judged)
+-- what is said of the texts that were read is said of those that are told
+both_told : (Said : List ℕ → List ℕ → Type 0) (c_told v_told : Option (List ℕ)) (c_text v_text : List ℕ)
+    → IfSome c_told (λ bytes. c_text ≡ bytes) → IfSome v_told (λ bytes. v_text ≡ bytes) → Said c_text v_text → OfBoth c_told v_told Said
+both_told Said c_told v_told c_text v_text c_whole v_whole said =
+    told_of (λ c. IfSome v_told (λ v. Said c v)) c_told c_text c_whole (told_of (λ v. Said c_text v) v_told v_text v_whole said)
 
 -- what holds of the pair that was read holds of each pair that the texts are
 pub holds_of : (options : Options) (c_text v_text : List ℕ) (program : Program) (counter : Counter) (Holds : Program → Counter → Type 0)
-    → fit_forms options ≡ true → IsClean c_text → HasTreeIn V v_text → IsProgram c_text program → IsCounter v_text counter → Holds program counter
+    → fit_forms options ≡ true → IsClean c_text → IsOtherModule options v_text → IsProgram c_text program → IsCounter v_text counter → Holds program counter
     → HoldsOf options c_text v_text Holds
 holds_of options c_text v_text program counter Holds fit c_read v_read is_program is_counter holds = (
   fit,
@@ -101,15 +112,27 @@ refuses_told options c_told v_told c_text v_text file refusal c_whole v_whole (v
     v_refused r (told_of (HasTreeIn C) c_told c_text c_whole read) (told_of (λ text. IsRefused V text r) v_told v_text v_whole refused)
 refuses_told options c_told v_told c_text v_text file refusal c_whole v_whole (c_offends r offends read) =
     c_offends r (told_of (λ text. Offends text r) c_told c_text c_whole offends) (told_of (HasTreeIn V) v_told v_text v_whole read)
+refuses_told options c_told v_told c_text v_text file refusal c_whole v_whole (not_taken said) =
+    not_taken (both_told (IsNotTaken options) c_told v_told c_text v_text c_whole v_whole said)
+refuses_told options c_told v_told c_text v_text file refusal c_whole v_whole (too_heavy said) =
+    too_heavy (both_told (λ c v. IsToldOf options c v told.TooHeavy) c_told v_told c_text v_text c_whole v_whole said)
 refuses_told options c_told v_told c_text v_text file refusal c_whole v_whole (options_unsupported c_read v_read unfit) =
-    options_unsupported (told_of IsClean c_told c_text c_whole c_read) (told_of (HasTreeIn V) v_told v_text v_whole v_read) unfit
+    options_unsupported (told_of IsClean c_told c_text c_whole c_read) (told_of (IsOtherModule options) v_told v_text v_whole v_read) unfit
 refuses_told options c_told v_told c_text v_text file refusal c_whole v_whole (c_unsupported c_read v_read none) =
-    c_unsupported (told_of IsClean c_told c_text c_whole c_read) (told_of (HasTreeIn V) v_told v_text v_whole v_read)
+    c_unsupported (told_of IsClean c_told c_text c_whole c_read) (told_of (IsOtherModule options) v_told v_text v_whole v_read)
     (told_of (λ text. (program : Program) → ¬ (IsProgram text program)) c_told c_text c_whole none)
 refuses_told options c_told v_told c_text v_text file refusal c_whole v_whole (v_unsupported c_read v_read is none) =
-    v_unsupported (told_of IsClean c_told c_text c_whole c_read) (told_of (HasTreeIn V) v_told v_text v_whole v_read)
+    v_unsupported (told_of IsClean c_told c_text c_whole c_read) (told_of (IsOtherModule options) v_told v_text v_whole v_read)
     (told_of (λ text. (program : Program) × IsProgram text program) c_told c_text c_whole is)
     (told_of (λ text. (counter : Counter) → ¬ (IsCounter text counter)) v_told v_text v_whole none)
+
+-- what is told of the pair that texts are is right for them
+pub told_right : (options : Options) (c_text v_text : List ℕ) (t : Told) → IsToldOf options c_text v_text t
+    → IsJudged options c_text v_text (told_answer options.c_file t)
+told_right options c_text v_text told.TooHeavy is = too_heavy is
+told_right options c_text v_text (told.Successful proof) is = is
+told_right options c_text v_text (told.Failed trace) is = inr is
+told_right options c_text v_text (told.Spent proof) is = is
 
 -- what is right for the texts is right for the files
 pub judged_right : (options : Options) (told : List ℕ → Option (List ℕ)) (before after : Reading) (c_text v_text : List ℕ) (answer : Answer)
@@ -120,9 +143,11 @@ judged_right options told before after c_text v_text (ReadFault file) read c_who
 judged_right options told before after c_text v_text (Refused file refusal) read c_whole v_whole judged =
     of_texts file refusal read (refuses_told options (told options.c_file) (told options.v_file) c_text v_text file refusal c_whole v_whole judged)
 judged_right options told before after c_text v_text (Failed trace) read c_whole v_whole judged =
-    (read, judges_told options told c_text v_text (λ program counter. IsTraceOfBreak program counter options (string_bytes trace)) c_whole v_whole judged)
-judged_right options told before after c_text v_text Successful read c_whole v_whole judged =
-    (read, judges_told options told c_text v_text (λ program counter. (property : Property) → ¬ (CanBreak program counter options.bounds property)) c_whole v_whole judged)
+    (read, both_told (IsFailureOf options trace) (told options.c_file) (told options.v_file) c_text v_text c_whole v_whole judged)
+judged_right options told before after c_text v_text (Successful kept) read c_whole v_whole judged =
+    (read, both_told (IsSuccessOf options kept) (told options.c_file) (told options.v_file) c_text v_text c_whole v_whole judged)
+judged_right options told before after c_text v_text (Spent proof) read c_whole v_whole judged =
+    (read, both_told (IsSpentOf options proof) (told options.c_file) (told options.v_file) c_text v_text c_whole v_whole judged)
 judged_right options told before after c_text v_text Memory read c_whole v_whole judged = tt
 
 -- a second file that failed, after one that was read without a fault
@@ -149,3 +174,37 @@ read_whole told told_before name file text slice told_is name_is slice_is whole 
     let Q : Option (List ℕ) → Type 0 = λ t. IfSome t (λ bytes. text ≡ bytes) in
     let S : List ℕ → Type 0 = λ xs. IfSome (told file) (λ bytes. xs ≡ bytes) in
     subst S (sym slice_is) (subst P name_is (subst Q (ap (λ (t : List ℕ → Option (List ℕ)). t name) told_is) whole))
+
+-- texts with trees, beside which the program isn't one that is judged
+pub not_taken_beside : (options : Options) (c_text v_text : List ℕ) (c_tree : CTree) (v_tree : VTree) (program : CProgram)
+    → HasCTree c_text c_tree → HasVTree v_text v_tree → program ≡ program_of c_tree → c_offences c_tree ≡ []
+    → IsJoined options program v_tree.modules joined.NotTaken → IsNotTaken options c_text v_text
+not_taken_beside options c_text v_text c_tree v_tree program c_read v_read typed clean is =
+    let P : CProgram → Type 0 = λ p. IsJoined options p v_tree.modules joined.NotTaken in
+    let here = subst P typed is in
+    record { c_tree = c_tree; c_read = c_read; clean = clean; v_tree = v_tree; v_read = v_read; bare = here.0; not_taken = here.1 }
+
+-- texts with trees, of whose pair this is told
+pub told_beside_is : (options : Options) (c_text v_text : List ℕ) (c_tree : CTree) (v_tree : VTree) (program : CProgram) (t : Told)
+    → HasCTree c_text c_tree → HasVTree v_text v_tree → program ≡ program_of c_tree → c_offences c_tree ≡ []
+    → IsJoined options program v_tree.modules (joined.Told t) → IsToldOf options c_text v_text t
+told_beside_is options c_text v_text c_tree v_tree program t c_read v_read typed clean is =
+    let P : CProgram → Type 0 = λ p. IsJoined options p v_tree.modules (joined.Told t) in
+    let here = subst P typed is in (
+      pair_of (program_of c_tree) here.0,
+      bounds_for options (program_of c_tree),
+      record {
+        c_tree = c_tree;
+        c_read = c_read;
+        clean = clean;
+        v_tree = v_tree;
+        v_read = v_read;
+        name = here.0;
+        bare = here.1;
+        taken = here.2;
+        pair_is = refl;
+        bounds_are = refl;
+        well_formed = here.3;
+      },
+      here.4,
+    )

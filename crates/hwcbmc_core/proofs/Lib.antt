@@ -6,3 +6,4 @@ pub mod RunLemmas
 pub mod TraceLemmas
 pub mod AnswerLemmas
 pub mod CauseLemmas
+pub mod BudgetLemmas

@@ -1,25 +1,32 @@
 -- Which answer is right for the words and the files.
 use Rattle.std.specs.Prelude.{◌≡◌, ℕ, ◌<◌, ◌≤◌, ◌⊎◌, List, length, Option, None, Some, IfSome, true, false}
-use Rattle.std.specs.String.{string_bytes}
+use Rattle.std.specs.Prelude.{String, string_bytes}
+use Rattle.std.specs.declared.alloc.Global.{Global}
 use Rattle.io_edge.specs.Faults.{Rose}
 use Rattle.io_edge.specs.Files.{Reading}
 use Rattle.src_text.specs.declared.refusal.Refusal.{Refusal}
 use Rattle.src_text.specs.declared.refusal.Lang.{Lang}
 use Rattle.src_text.specs.declared.refusal.Lang.TheVariants.{C, V}
 use Rattle.src_text.specs.declared.kind.Kind.{Kind}
-use Rattle.src_text.specs.declared.kind.Kind.TheVariants.{TooLong, Unsupported}
+use Rattle.src_text.specs.declared.kind.Kind.TheVariants.{TooLong, TooHeavy, Unsupported}
 use Rattle.io_edge.specs.declared.reading.ReadEnd.{ReadEnd}
 use Rattle.io_edge.specs.declared.reading.ReadEnd.TheVariants as ends
 use Rattle.command_options.specs.declared.asked.Options.{Options}
 use Rattle.hwcbmc_core.specs.declared.sources.Program.{Program}
 use Rattle.hwcbmc_core.specs.declared.sources.Counter.{Counter}
 use Rattle.hwcbmc_core.specs.declared.answer.Answer.{Answer}
-use Rattle.hwcbmc_core.specs.declared.answer.Answer.TheVariants.{Usage, ReadFault, Refused, Failed, Successful, Memory}
+use Rattle.hwcbmc_core.specs.declared.answer.Answer.TheVariants.{Usage, ReadFault, Refused, Failed, Successful, Spent, Memory}
+use Rattle.hwcbmc_core.specs.declared.kept.Kept.{Kept}
+use Rattle.hwcbmc_core.specs.declared.kept.Kept.TheVariants as kept
+use Rattle.pair_proof.specs.declared.Proof.{Proof}
+use Rattle.verdicts.specs.declared.Told.{Told}
+use Rattle.verdicts.specs.declared.Told.TheVariants as told
 use Rattle.command_options.specs.Options.{options_of}
 use Rattle.hwcbmc_core.specs.Forms.{fit_forms}
 use Rattle.hwcbmc_core.specs.Sources.{IsProgram, IsCounter}
 use Rattle.hwcbmc_core.specs.Trees.{HasTreeIn, IsRefused}
 use Rattle.hwcbmc_core.specs.Typing.{IsClean, Offends}
+use Rattle.hwcbmc_core.specs.Pairs.{IsOtherModule, IsNotTaken, IsToldOf}
 use Rattle.hwcbmc_core.specs.Runs.{Property, Broken, run_of, CanBreak}
 use Rattle.hwcbmc_core.specs.Trace.{trace_text}
 
@@ -58,8 +65,13 @@ pub record AreRead (options : Options) (told : List ℕ → Option (List ℕ)) (
   pub c_fits : FitsLength (told options.c_file)
   pub v_fits : FitsLength (told options.v_file)
 
+-- What is said of two texts, as far as they are told.
+abbrev pub OfBoth : Option (List ℕ) → Option (List ℕ) → (List ℕ → List ℕ → Type 0) → Type 0
+OfBoth c_told v_told Said = IfSome c_told (λ c_text. IfSome v_told (λ v_text. Said c_text v_text))
+
 -- The first refusal of two texts, as far as they are told, in order: one that has no tree, C first; then the first offence
--- of the C text; then options that the written forms don't fit; then a text that isn't of its written form, C first.
+-- of the C text. Then, beside one bare module that is the top: a program that isn't judged yet, or a pair that is too heavy. Beside
+-- any other module: options that the written forms don't fit, then a text that isn't of its written form, C first.
 pub data RefusesTexts (options : Options) (c_told v_told : Option (List ℕ)) : List ℕ → Refusal → Type 0 where
   c_refused : (refusal : Refusal) → IfSome c_told (λ text. IsRefused C text refusal)
       → RefusesTexts options c_told v_told options.c_file refusal
@@ -67,12 +79,16 @@ pub data RefusesTexts (options : Options) (c_told v_told : Option (List ℕ)) : 
       → RefusesTexts options c_told v_told options.v_file refusal
   c_offends : (refusal : Refusal) → IfSome c_told (λ text. Offends text refusal) → IfSome v_told (HasTreeIn V)
       → RefusesTexts options c_told v_told options.c_file refusal
-  options_unsupported : IfSome c_told IsClean → IfSome v_told (HasTreeIn V) → fit_forms options ≡ false
+  not_taken : OfBoth c_told v_told (IsNotTaken options)
       → RefusesTexts options c_told v_told options.c_file (at_beginning C Unsupported)
-  c_unsupported : IfSome c_told IsClean → IfSome v_told (HasTreeIn V)
+  too_heavy : OfBoth c_told v_told (λ c_text v_text. IsToldOf options c_text v_text told.TooHeavy)
+      → RefusesTexts options c_told v_told options.c_file (at_beginning C TooHeavy)
+  options_unsupported : IfSome c_told IsClean → IfSome v_told (IsOtherModule options) → fit_forms options ≡ false
+      → RefusesTexts options c_told v_told options.c_file (at_beginning C Unsupported)
+  c_unsupported : IfSome c_told IsClean → IfSome v_told (IsOtherModule options)
       → IfSome c_told (λ text. (program : Program) → ¬ (IsProgram text program))
       → RefusesTexts options c_told v_told options.c_file (at_beginning C Unsupported)
-  v_unsupported : IfSome c_told IsClean → IfSome v_told (HasTreeIn V)
+  v_unsupported : IfSome c_told IsClean → IfSome v_told (IsOtherModule options)
       → IfSome c_told (λ text. (program : Program) × IsProgram text program)
       → IfSome v_told (λ text. (counter : Counter) → ¬ (IsCounter text counter))
       → RefusesTexts options c_told v_told options.v_file (at_beginning V Unsupported)
@@ -91,14 +107,9 @@ pub data IsFirstRefusal (options : Options) (told : List ℕ → Option (List �
 -- is said holds of the pair that they are.
 abbrev pub HoldsOf : Options → List ℕ → List ℕ → (Program → Counter → Type 0) → Type 0
 HoldsOf options c_text v_text Holds =
-    (fit_forms options ≡ true) × IsClean c_text × HasTreeIn V v_text
+    (fit_forms options ≡ true) × IsClean c_text × IsOtherModule options v_text
     × ((program : Program) × IsProgram c_text program) × ((counter : Counter) × IsCounter v_text counter)
     × ((program : Program) (counter : Counter) → IsProgram c_text program → IsCounter v_text counter → Holds program counter)
-
--- The same of the two files, where their bytes are told.
-abbrev pub Judges : Options → (List ℕ → Option (List ℕ)) → (Program → Counter → Type 0) → Type 0
-Judges options told Holds =
-    IfSome (told options.c_file) (λ c_text. IfSome (told options.v_file) (λ v_text. HoldsOf options c_text v_text Holds))
 
 -- The text is the trace of a run that breaks the property which it names.
 abbrev pub IsTraceOfBreak : Program → Counter → Options → List ℕ → Type 0
@@ -107,21 +118,48 @@ IsTraceOfBreak program counter options text =
     × ((run_of program counter options.bounds choices).outcome ≡ Broken property)
     × (text ≡ trace_text property (run_of program counter options.bounds choices).events)
 
+-- A success is right for two texts. With a proof they are a pair that is safe: no run within the bounds breaks a property, and
+-- nothing fails without the limits on turns and activations. Without one they are of the written forms, and no run breaks a property.
+abbrev pub IsSuccessOf : Options → Kept → List ℕ → List ℕ → Type 0
+IsSuccessOf options kept.Nothing c_text v_text =
+    HoldsOf options c_text v_text (λ program counter. (property : Property) → ¬ (CanBreak program counter options.bounds property))
+IsSuccessOf options (kept.Proof proof) c_text v_text = IsToldOf options c_text v_text (told.Successful proof)
+
+-- A failure is right for two texts: its text is the trace of a run that breaks a property, of the written forms or of a pair.
+abbrev pub IsFailureOf : Options → (trace : String Global) → List ℕ → List ℕ → Type 0
+IsFailureOf options trace c_text v_text =
+    HoldsOf options c_text v_text (λ program counter. IsTraceOfBreak program counter options (string_bytes trace))
+    ⊎ IsToldOf options c_text v_text (told.Failed trace)
+
+-- A spent budget is right for two texts: they are a pair, of which just so many clauses were derived.
+abbrev pub IsSpentOf : Options → Proof → List ℕ → List ℕ → Type 0
+IsSpentOf options proof c_text v_text = IsToldOf options c_text v_text (told.Spent proof)
+
+-- What is said of two texts, of the two files, where their bytes are told.
+abbrev pub OfFiles : Options → (List ℕ → Option (List ℕ)) → (List ℕ → List ℕ → Type 0) → Type 0
+OfFiles options told Said = OfBoth (told options.c_file) (told options.v_file) Said
+
 -- the answer where a file isn't there as a whole
 abbrev pub unread : List ℕ → Lang → ReadEnd → Answer
 unread file lang ends.Failed = ReadFault file
 unread file lang ends.TooLong = Refused file (at_beginning lang TooLong)
 unread file lang ends.Memory = Memory
 
+-- the answer where this is told of the pair that the files are
+abbrev pub told_answer : (c_file : List ℕ) → Told → Answer
+told_answer c_file told.TooHeavy = Refused c_file (at_beginning C TooHeavy)
+told_answer c_file (told.Successful proof) = Successful (kept.Proof proof)
+told_answer c_file (told.Failed trace) = Failed trace
+told_answer c_file (told.Spent proof) = Spent proof
+
 -- The answer is right for these texts.
 abbrev pub IsJudged : Options → List ℕ → List ℕ → Answer → Type 0
 IsJudged options c_text v_text Usage = ⊥
 IsJudged options c_text v_text (ReadFault file) = ⊥
 IsJudged options c_text v_text (Refused file refusal) = RefusesTexts options (Some c_text) (Some v_text) file refusal
-IsJudged options c_text v_text (Failed trace) =
-    HoldsOf options c_text v_text (λ program counter. IsTraceOfBreak program counter options (string_bytes trace))
-IsJudged options c_text v_text Successful =
-    HoldsOf options c_text v_text (λ program counter. (property : Property) → ¬ (CanBreak program counter options.bounds property))
+IsJudged options c_text v_text (Failed trace) = IsFailureOf options trace c_text v_text
+IsJudged options c_text v_text (Successful kept) = IsSuccessOf options kept c_text v_text
+IsJudged options c_text v_text (Spent proof) = IsSpentOf options proof c_text v_text
 IsJudged options c_text v_text Memory = Unit {0}
 
 -- The answer is right for words that have these options.
@@ -130,12 +168,9 @@ IsRightFor options told before after Usage = ⊥
 IsRightFor options told before after (ReadFault file) =
     IsFaulty file before after × ((file ≡ options.c_file) ⊎ ((file ≡ options.v_file) × FitsLength (told options.c_file)))
 IsRightFor options told before after (Refused file refusal) = IsFirstRefusal options told before after file refusal
-IsRightFor options told before after (Failed trace) =
-    AreRead options told before after
-    × Judges options told (λ program counter. IsTraceOfBreak program counter options (string_bytes trace))
-IsRightFor options told before after Successful =
-    AreRead options told before after
-    × Judges options told (λ program counter. (property : Property) → ¬ (CanBreak program counter options.bounds property))
+IsRightFor options told before after (Failed trace) = AreRead options told before after × OfFiles options told (IsFailureOf options trace)
+IsRightFor options told before after (Successful kept) = AreRead options told before after × OfFiles options told (IsSuccessOf options kept)
+IsRightFor options told before after (Spent proof) = AreRead options told before after × OfFiles options told (IsSpentOf options proof)
 IsRightFor options told before after Memory = Unit {0}
 
 -- The answer is right for the words. Want of memory may come at any time; else the words' fault comes exactly

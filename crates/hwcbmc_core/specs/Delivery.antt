@@ -5,16 +5,17 @@ use Rattle.io_edge.specs.Faults.{Rose}
 use Rattle.io_edge.specs.Sink.{Stream, Appends, AppendsPart}
 use Rattle.src_text.specs.Kind.{text_of}
 use Rattle.hwcbmc_core.specs.declared.answer.Answer.{Answer}
-use Rattle.hwcbmc_core.specs.declared.answer.Answer.TheVariants.{Usage, ReadFault, Refused, Failed, Successful, Memory}
+use Rattle.hwcbmc_core.specs.declared.answer.Answer.TheVariants.{Usage, ReadFault, Refused, Failed, Successful, Spent, Memory}
 
--- the exit status of an answer: 0 for a success, 10 for a broken property, and one of its own for each reason why
--- there is no verdict
+-- the exit status of an answer: 0 for a success, 10 for a broken property, 11 for a spent budget, and one of its own for each
+-- other reason why there is no verdict
 abbrev pub status_of : Answer → ℕ
 status_of Usage = 64
 status_of (ReadFault file) = 7
 status_of (Refused file refusal) = 6
 status_of (Failed trace) = 10
-status_of Successful = 0
+status_of (Successful kept) = 0
+status_of (Spent proof) = 11
 status_of Memory = 9
 
 -- the whole text of an answer
@@ -25,7 +26,8 @@ message_of (Refused file refusal) =
     codes "hwcbmc: " ++ (file ++ (codes ":" ++ (decimal refusal.place.line ++ (codes ":" ++ (decimal refusal.place.column
     ++ (codes ": " ++ (text_of refusal.kind ++ codes "\n")))))))
 message_of (Failed trace) = string_bytes trace
-message_of Successful = codes "VERIFICATION SUCCESSFUL\n"
+message_of (Successful kept) = codes "VERIFICATION SUCCESSFUL\n"
+message_of (Spent proof) = codes "BUDGET SPENT\n"
 message_of Memory = codes "hwcbmc: out of memory\n"
 
 -- All of the text went out.
@@ -42,10 +44,11 @@ pub record IsCut (text : List ℕ) (old new : Stream) : Type 0 where
 abbrev pub IsSentAs : List ℕ → ℕ → ℕ → Stream → Stream → Type 0
 IsSentAs text status given old new = ((given ≡ status) × IsSent text old new) ⊎ ((given ≡ 8) × IsCut text old new)
 
--- Verdicts go to the first stream, and all else to the second. The other stream stays as it was.
+-- Verdicts and a spent budget go to the first stream, and all else to the second. The other stream stays as it was.
 abbrev pub IsDelivered : Answer → ℕ → Stream → Stream → Stream → Stream → Type 0
 IsDelivered (Failed trace) given out out_after err err_after = IsSentAs (string_bytes trace) 10 given out out_after × (err_after ≡ err)
-IsDelivered Successful given out out_after err err_after = IsSentAs (message_of Successful) 0 given out out_after × (err_after ≡ err)
+IsDelivered (Successful kept) given out out_after err err_after = IsSentAs (message_of (Successful kept)) 0 given out out_after × (err_after ≡ err)
+IsDelivered (Spent proof) given out out_after err err_after = IsSentAs (message_of (Spent proof)) 11 given out out_after × (err_after ≡ err)
 IsDelivered answer given out out_after err err_after = IsSentAs (message_of answer) (status_of answer) given err err_after × (out_after ≡ out)
 
 -- The answer's text is put together of parts, which takes memory. The other texts are there already.

@@ -5,5 +5,7 @@ pub mod Runs
 pub mod Trace
 pub mod Trees
 pub mod Typing
+pub mod Pairs
 pub mod Answers
+pub mod Keeping
 pub mod Delivery

@@ -15,6 +15,8 @@ const OUT_OF_MEMORY: &str = "hwcbmc: out of memory\n";
 
 const SUCCESSFUL: &str = "VERIFICATION SUCCESSFUL\n";
 
+const SPENT: &str = "BUDGET SPENT\n";
+
 /// No run breaks a property.
 const STATUS_SUCCESSFUL: u8 = 0;
 /// A file is refused.
@@ -27,10 +29,12 @@ const STATUS_WRITE_FAULT: u8 = 8;
 const STATUS_MEMORY: u8 = 9;
 /// A run breaks a property.
 const STATUS_FAILED: u8 = 10;
+/// The budget is spent.
+const STATUS_SPENT: u8 = 11;
 /// The words aren't of the command's form.
 const STATUS_USAGE: u8 = 64;
 
-/// Writes the answer's text to its stream: verdicts to `out`, refusals to `err`. The status is the
+/// Writes the answer's text to its stream: verdicts and a spent budget to `out`, all else to `err`. The status is the
 /// answer's own, but for a text that can't be made or written. Only a text that names a file has to
 /// be made.
 pub fn deliver<O: Sink, E: Sink>(alloc: Global, answer: &Answer, out: &mut O, err: &mut E) -> u8
@@ -44,7 +48,8 @@ pub fn deliver<O: Sink, E: Sink>(alloc: Global, answer: &Answer, out: &mut O, er
             send_made(err, refused(alloc, file, *refusal), STATUS_REFUSED)
         }
         Answer::Failed(trace) => send(out, trace.as_str(), STATUS_FAILED),
-        Answer::Successful => send(out, SUCCESSFUL, STATUS_SUCCESSFUL),
+        Answer::Successful(_) => send(out, SUCCESSFUL, STATUS_SUCCESSFUL),
+        Answer::Spent(_) => send(out, SPENT, STATUS_SPENT),
         Answer::Memory => send(err, OUT_OF_MEMORY, STATUS_MEMORY),
     }
 }

@@ -9,3 +9,6 @@ returns-in-Successful g c = rw c.in-Successful.is (inl (c.send-in-Successful.ens
 
 pub returns-in-Memory : goal.returns-in-Memory
 returns-in-Memory g c = rw c.in-Memory.is (inl (c.send-in-Memory.ensures, refl))
+
+pub returns-in-Spent : goal.returns-in-Spent
+returns-in-Spent g c = rw c.in-Spent.is (inl (c.send-in-Spent.ensures, refl))
