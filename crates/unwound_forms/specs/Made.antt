@@ -1,5 +1,5 @@
 -- Which statements are of forms that are unwound today. A form more is a line more of `stmt_is_made`.
-use Rattle.std.specs.Prelude.{ℕ, nat_eq, Bool, true, false, ◌&&◌, List, [], ◌∷◌, Option, Some, None, slice_get}
+use Rattle.std.specs.Prelude.{ℕ, nat_eq, Bool, true, false, ◌&&◌, if◌then◌else◌, List, [], ◌∷◌, Option, Some, None, slice_get}
 use Rattle.joint_ir.specs.declared.ctype.IntType.{IntType}
 use Rattle.joint_ir.specs.declared.program.CProgram.{CProgram}
 use Rattle.joint_ir.specs.declared.program.Function.{Function}
@@ -45,9 +45,15 @@ abbrev pub return_is_made : CProgram → Option TInit → Bool
 return_is_made p None = true
 return_is_made p (Some init) = init_is_made p init
 
--- a declaration of a local that is no array
+-- what an array is set to
+abbrev pub array_is_made : TInit → Bool
+array_is_made Free = true
+array_is_made (Values es) = true
+array_is_made (Called call) = false
+
+-- a declaration of a local
 abbrev pub declare_is_made : CProgram → ℕ → TInit → Bool
-declare_is_made p x init = nat_eq (slot_length p (Local x)) 0 && init_is_made p init
+declare_is_made p x init = if nat_eq (slot_length p (Local x)) 0 then init_is_made p init else array_is_made init
 
 -- an update of an object that is no array
 abbrev pub is_plain : Option TExpr → Bool

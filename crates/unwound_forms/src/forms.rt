@@ -3,7 +3,7 @@
 ghost use Rattle.std.specs.Prelude.{◌≡◌, nat_eq};
 ghost use Rattle.joint_ir.specs.declared.expr.Slot.TheVariants.{Local};
 ghost use Rattle.joint_ir.specs.Weights.{slot_length};
-ghost use Rattle.unwound_forms.specs.Made.{stmt_is_made, items_are_made, option_is_made, loop_is_made, opens, call_is_made, init_is_made, return_is_made, declare_is_made, update_is_made, function_is_made, program_is_made};
+ghost use Rattle.unwound_forms.specs.Made.{stmt_is_made, items_are_made, option_is_made, loop_is_made, opens, call_is_made, init_is_made, return_is_made, array_is_made, declare_is_made, update_is_made, function_is_made, program_is_made};
 
 use joint_ir::{CProgram, Function, SNode, Slot, TCall, TInit, TLoop, TStmt, TTarget, lookup};
 use sqlite_items::Boxed;
@@ -59,14 +59,25 @@ fn is_single(program: &CProgram, local: u32) -> bool
     lookup::slot_length(program, Slot::Local(local)) == 0
 }
 
-/// Whether a declaration is of a local that is no array.
+/// Whether an array is left open, or set to expressions' values.
+fn is_array_made(init: &TInit) -> bool
+    ensures { result ≡ array_is_made init.now }
+{
+    match init {
+        TInit::Free | TInit::Values(_) => true,
+        TInit::Called(_) => false,
+    }
+}
+
+/// Whether a declaration is.
 fn is_declare_made(program: &CProgram, local: u32, init: &TInit) -> bool
     ensures { result ≡ declare_is_made program.now local init.now }
 {
-    if !is_single(program, local) {
-        return false;
+    if is_single(program, local) {
+        is_init_made(program, init)
+    } else {
+        is_array_made(init)
     }
-    is_init_made(program, init)
 }
 
 /// Whether an update is of an object that is no array.
