@@ -1,4 +1,5 @@
 pub mod Orders
 pub mod Branches
+pub mod Cases
 pub mod Falling
 pub mod Turns

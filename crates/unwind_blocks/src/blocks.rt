@@ -2,19 +2,25 @@
 
 ghost use Rattle.std.specs.Prelude.{◌≡◌, IfOk};
 ghost use Rattle.joint_ir.specs.Statements.{after, after_loop};
+ghost use Rattle.joint_ir.specs.Types.{IsType};
 ghost use Rattle.joint_ir.specs.WellFormed.{Scope, FitsStmt, FitsLoop, declared_behind};
-ghost use Rattle.joint_lists.specs.Lists.{after_items, after_option, FitsItems, FitsOptional};
+ghost use Rattle.joint_lists.specs.Lists.{after_items, after_option, FitsCases, FitsItems, FitsOptional};
+ghost use Rattle.sized_terms.specs.Sized.{Has};
+ghost use Rattle.switch_guards.specs.Entries.{FitLabels};
 ghost use Rattle.unwind_simple.specs.Simple.{MayRun, calls_in, is_in, setting_of};
 ghost use Rattle.unwind_blocks.specs.Blocks.{IsUnwound, AreUnwound, behind_items};
+ghost use Rattle.unwind_blocks.specs.Switches.{AreCases};
 ghost use Rattle.unwind_blocks.specs.Loops.{FitsTurn, IsPart, turn_of, loop_in};
 
 use crate::loops::{begun, ended, test};
 use crate::tests_of::tested;
-use joint_ir::{SNode, TLoop, TStmt, Way, lookup};
+use joint_ir::{Group, IntType, SNode, TLoop, TStmt, Way, lookup};
+use sized_terms::SizedTerm;
 use sqlite_items::Boxed;
 use std::alloc::{AllocError, Global};
+use switch_guards::{enter_groups, entered, switched};
 use unrolled::Unrolled;
-use unwind_simple::{Activation, assert, assume, called, give_back};
+use unwind_simple::{Activation, assert, assume, called, give_back, value};
 use unwind_state::{Flow, Guard, State, joined, merged, turned};
 use unwind_stores::{declare, store, update};
 
@@ -63,6 +69,12 @@ pub fn stmt(
         }
         SNode::Loop(one) => {
             let f = repeat(alloc, net, at, state, one, guard)?;
+            Ok(f)
+        }
+        SNode::Switch(e, groups) => {
+            let e = e.get();
+            let t = value(net, at, state, e, guard)?;
+            let f = cases(alloc, net, at, state, groups.as_slice(), e.ty, t, guard)?;
             Ok(f)
         }
         SNode::Break => Ok(Flow::only(Way::Breaking, guard)),
@@ -189,5 +201,38 @@ fn round(
     let next = test(net, at, state, &one.cond, last.next)?;
     let rest = merged(net, last, next)?;
     let f = merged(net, body, rest)?;
+    Ok(f)
+}
+
+/// The groups of a `switch` over a value: each runs where control enters it, or falls through from the one before it
+/// (C99 6.8.4.2).
+#[cycle(blocks)]
+fn cases(
+    alloc: Global,
+    net: &mut Unrolled,
+    at: &Activation,
+    state: &mut State,
+    groups: &[Group],
+    ty: IntType,
+    value: SizedTerm,
+    guard: Guard,
+) -> Result<Flow, AllocError>
+    requires run { MayRun at.now net.old state.old guard (λ c. FitsCases c groups.now) }
+    requires has { Has net.old.terms value }
+    requires width { value.width ≡ ty.bits }
+    requires ty { IsType ty }
+    requires fit { FitLabels ty groups.now }
+    ensures { IfOk result (λ f. (c : Scope) → is_in at.now c → FitsCases c groups.now → AreCases at.now net.old net.new state.old state.new guard f c.locals ty value groups.now) }
+{
+    let entries = enter_groups(alloc, net, ty, value, groups, guard)?;
+    let mut ways = Flow::only(Way::Next, Guard::Never);
+    for i in 0..groups.len() {
+        let entry = entries.groups[i];
+        let here = entered(net, ways, entry)?;
+        let f = block(alloc, net, at, state, groups[i].body.as_slice(), here.next)?;
+        ways = merged(net, here, f)?;
+    }
+    let last = entered(net, ways, entries.past)?;
+    let f = switched(net, last)?;
     Ok(f)
 }

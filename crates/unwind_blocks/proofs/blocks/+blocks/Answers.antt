@@ -1,23 +1,28 @@
-use Rattle.std.proofs.Common.{◌≡◌, false, suc, ◌+◌, ◌-◌, [], ◌∷◌, take, drop, refl, sym, ap, ◌∙◌, subst, arith}
+use Rattle.std.proofs.Common.{◌≡◌, ◌<◌, length, false, suc, ◌+◌, ◌-◌, [], ◌∷◌, take, drop, refl, sym, ap, ◌∙◌, subst, arith}
 use Rattle.std.specs.Prelude.{Some}
 use Rattle.std.proofs.lemmas.Grind.{common_steps}
 use Rattle.std.proofs.lemmas.List.{drop_more}
 use Rattle.std.proofs.Math.ListN.{drop_of_length-le}
 use Rattle.joint_ir.specs.declared.expr.TExpr.{TExpr}
-use Rattle.joint_ir.specs.declared.stmt.SNode.{the_lemmas, Block, Declare, Store, Update, Call, If, Loop, Break, Continue, Return, Assert, Assume}
+use Rattle.joint_ir.specs.declared.stmt.SNode.{the_lemmas, Block, Store, Update, Call, If, Loop, Switch, Break, Continue, Return, Assert, Assume}
+use Rattle.joint_ir.specs.declared.stmt.Group.{Group, out-Group}
 use Rattle.joint_ir.specs.declared.stmt.TLoop.{out-TLoop}
 use Rattle.joint_ir.specs.declared.stmt.TStmt.{TStmt}
 use Rattle.joint_ir.specs.declared.way.Way.TheVariants.{Next, Breaking, Continuing}
 use Rattle.joint_ir.specs.Statements.{after, after_loop}
 use Rattle.joint_ir.specs.declared.program.CProgram.{CProgram}
 use Rattle.joint_ir.specs.Steps.{call_effect, return_effect, slot_type, store_effect, update_effect}
-use Rattle.joint_ir.specs.WellFormed.{Scope, FitsExpr, FitsInit, FitsStmt, declared_behind}
-use Rattle.joint_lists.specs.Lists.{after_items, after_option, FitsOptional}
-use Rattle.joint_lists.proofs.Rows.{after-block, after-if}
-use Rattle.joint_lists.proofs.Shapes.{fits-block, fits-if}
+use Rattle.joint_ir.specs.WellFormed.{Scope, FitsExpr, FitsInit, FitsStmt, declared_behind, in_a_switch}
+use Rattle.joint_lists.specs.Lists.{after_items, after_option, entered_case, FitsOptional}
+use Rattle.joint_lists.proofs.Rows.{after-block, after-if, after-switch}
+use Rattle.joint_lists.proofs.Shapes.{fits-block, fits-if, fits-switch}
 use Rattle.trails.specs.Following.{goes}
 use Rattle.unwind_simple.specs.Simple.{setting_of, calls_in, asserted_as, assumed_as}
 use Rattle.unwind_simple.proofs.Statements.{grown_result}
+use Rattle.unwind_state.proofs.Gates.{guard_below, guard_kept}
+use Rattle.switch_guards.specs.Entries.{number_of}
+use Rattle.switch_guards.proofs.Placing.{placed_get}
+use Rattle.unwind_blocks.proofs.Cases.{CasesLeft, cases_first, cases_more, cases_last, done_switch, switch_labels, group_fits, group_here}
 use Rattle.unwind_blocks.proofs.Orders.{Sofar, scope_behind, next_fits, declares, stays}
 use Rattle.unwind_blocks.proofs.Branches.{grows_adds, grows_then, guard_grows, flow_grows, objects_grow, tested_grows, done_if, done_as, done_at, done_declared, done_block, done_fewer, done_way, unwound_at, breaks, continues, sofar_first, sofar_more, sofar_last}
 use Rattle.unwind_blocks.proofs.Turns.{left_first, left_more, left_over, done_loop, inner_of, fits_heads, fits_turns, fits_last, last_simple, turn_made}
@@ -403,3 +408,136 @@ round-returns t c =
     (declared_behind body.node d.locals) (declares body.node d.locals) (last_simple d (out-TLoop l).step fits.last)
     (subst (λ (x : TStmt). IsUnwound a c.args.net.now c.stmt.new.net c.args.state.now c.stmt.new.state c.args.guard c.in_ok-a.a d.locals (declared_behind body.node d.locals) (after k (calls_in a) x.place x.node)) c.get.ensures A) c.in_ok-body.ensures
     (c.in_ok-last.ensures d inside (fits_last d (out-TLoop l).step fits.last)) (c.in_ok-next.ensures d inside fits.cond) c.in_ok-rest.ensures c.in_ok-f.ensures
+
+-- a switch
+
+pub stmt-value-requires : goal.stmt-value-requires
+stmt-value-requires t c =
+    record { scope = c.requires.scope; program = c.requires.program; fits = (fits-switch c.requires.scope c.args.s.now.node c.in-Switch.e c.get-e.result.now c.in-Switch.groups c.in-Switch.groups c.in-Switch.is c.get-e.ensures refl c.requires.fits).0; objects = c.requires.objects; guard = c.requires.guard }
+
+pub stmt-cases-requires : goal.stmt-cases-requires
+stmt-cases-requires t c =
+    let d = c.requires.scope in
+    let node = c.args.s.now.node in
+    let V = c.in_ok-t-in-Switch.ensures in
+    let F = fits-switch d node c.in-Switch.e c.get-e.result.now c.in-Switch.groups c.as_slice-in-Switch.result.now c.in-Switch.is c.get-e.ensures c.as_slice-in-Switch.ensures c.requires.fits in
+    let L = switch_labels d node c.in-Switch.e c.get-e.result.now c.in-Switch.groups c.as_slice-in-Switch.result.now c.in-Switch.is c.get-e.ensures c.as_slice-in-Switch.ensures c.requires.fits in (
+      grind (the_lemmas, arith, common_steps),
+      (
+        record {
+          well = c.requires.well;
+          scope = in_a_switch d;
+          program = c.requires.program;
+          fits = F.1;
+          objects = objects_grow c.args.at.now c.args.net.now.terms c.value.new.net.terms c.args.state.now.objects V.grows c.requires.objects;
+          result = grown_result c.args.at.now c.args.net.now.terms c.value.new.net.terms c.args.state.now.result V.grows c.requires.result;
+          guard = guard_grows c.args.net.now.terms c.value.new.net.terms c.args.guard V.grows c.requires.guard;
+        },
+        (V.has, (V.width, (L.0, L.1))),
+      ),
+    )
+
+pub stmt-returns-in_ok-f-in-Switch : goal.stmt-returns-in_ok-f-in-Switch
+stmt-returns-in_ok-f-in-Switch t c =
+    let at = c.args.at.now in
+    let k = setting_of at in
+    let s = c.args.s.now in
+    let e = c.get-e.result.now in
+    let groups = c.as_slice-in-Switch.result.now in
+    λ d inside fits.
+    let F = fits-switch d s.node c.in-Switch.e e c.in-Switch.groups groups c.in-Switch.is c.get-e.ensures c.as_slice-in-Switch.ensures fits in
+    unwound_at at c.args.net.now c.cases.new.net c.args.state.now c.cases.new.state c.args.guard c.in_ok-f-in-Switch.f d.locals s (Switch c.in-Switch.e c.in-Switch.groups) _ c.in-Switch.is refl
+    (sym (after-switch k (calls_in at) s.place s.node c.in-Switch.e e c.in-Switch.groups groups c.in-Switch.is c.get-e.ensures c.as_slice-in-Switch.ensures))
+    (done_switch at c.args.net.now c.value.new.net c.cases.new.net c.args.state.now c.cases.new.state e groups c.args.guard c.in_ok-t-in-Switch.t c.in_ok-f-in-Switch.f d c.in_ok-t-in-Switch.ensures (c.in_ok-f-in-Switch.ensures (in_a_switch d) inside F.1) inside F.0)
+
+pub cases-loop-i-init : goal.cases-loop-i-init
+cases-loop-i-init t c =
+    let a = c.args.at.now in
+    let N = c.in_ok-entries.ensures in
+    cases_first a c.enter_groups.new.net c.args.state.now c.args.groups.now c.args.guard (λ v. entered_case (number_of c.args.ty v c.args.value) c.args.groups.now) c.only-ways.result c.only-ways.ensures N.adds.proper
+    (objects_grow a c.args.net.now.terms c.enter_groups.new.net.terms c.args.state.now.objects (grows_adds c.args.net.now c.enter_groups.new.net N.adds) c.requires.run.objects) (guard_kept c.args.net.now c.enter_groups.new.net c.args.guard N.adds c.requires.run.guard)
+
+pub cases-index-entry-requires : goal.cases-index-entry-requires
+cases-index-entry-requires t c =
+    let h = c.loop-i-test.true in
+    let n = c.in_ok-entries.ensures.count in
+    let o = c.in_ok-entries.entries.groups.ok in
+    omega (arith, h, n, o)
+
+pub cases-entered-requires-clause-ways : goal.cases-entered-requires-clause-ways
+cases-entered-requires-clause-ways t c = c.loop-i.invariant.flow
+
+pub cases-entered-requires-clause-entry : goal.cases-entered-requires-clause-entry
+cases-entered-requires-clause-entry t c =
+    let h = c.loop-i-test.true in
+    let n = c.in_ok-entries.ensures.count in
+    let few : c.loop-i.i < length c.in_ok-entries.entries.groups.items = omega (arith, h, n) in
+    guard_grows c.enter_groups.new.net.terms c.loop-i.net.terms c.index-entry.result.now c.loop-i.invariant.grows
+    (c.in_ok-entries.ensures.has c.loop-i.i c.index-entry.result.now (placed_get c.in_ok-entries.entries.groups.items c.loop-i.i c.index-entry.result.now few c.index-entry.ensures))
+
+pub cases-block-requires : goal.cases-block-requires
+cases-block-requires t c =
+    let a = c.args.at.now in
+    let E = c.in_ok-here.ensures in
+    let S = c.loop-i.invariant in
+    let N = c.in_ok-entries.ensures in (
+      grind (the_lemmas, arith, common_steps),
+      record {
+        well = c.requires.run.well;
+        scope = c.requires.run.scope;
+        program = c.requires.run.program;
+        fits = group_fits c.requires.run.scope c.args.groups.now c.loop-i.i c.index-groups-i.result c.as_slice.result.now c.loop-i-test.true c.index-groups-i.is (c.as_slice.ensures ∙ ap (λ (y : Group). (out-Group y).body) (sym c.index-groups-i.is)) c.requires.run.fits;
+        objects = objects_grow a c.loop-i.net.terms c.entered.new.net.terms c.loop-i.state.objects (grows_adds c.loop-i.net c.entered.new.net E.adds) S.objects;
+        result = grown_result a c.loop-i.net.terms c.entered.new.net.terms c.loop-i.state.result (grows_adds c.loop-i.net c.entered.new.net E.adds)
+            (S.result (grown_result a c.args.net.now.terms c.enter_groups.new.net.terms c.args.state.now.result (grows_adds c.args.net.now c.enter_groups.new.net N.adds) c.requires.run.result));
+        guard = E.has Next;
+      },
+    )
+
+pub cases-merged-requires-clause-first : goal.cases-merged-requires-clause-first
+cases-merged-requires-clause-first t c =
+    let fits = group_fits c.requires.run.scope c.args.groups.now c.loop-i.i c.index-groups-i.result c.as_slice.result.now c.loop-i-test.true c.index-groups-i.is (c.as_slice.ensures ∙ ap (λ (y : Group). (out-Group y).body) (sym c.index-groups-i.is)) c.requires.run.fits in
+    flow_grows c.entered.new.net.terms c.block.new.net.terms c.in_ok-here.here (c.in_ok-f.ensures c.requires.run.scope c.requires.run.program fits).grows c.in_ok-here.ensures.has
+
+pub cases-merged-requires-clause-second : goal.cases-merged-requires-clause-second
+cases-merged-requires-clause-second t c =
+    let fits = group_fits c.requires.run.scope c.args.groups.now c.loop-i.i c.index-groups-i.result c.as_slice.result.now c.loop-i-test.true c.index-groups-i.is (c.as_slice.ensures ∙ ap (λ (y : Group). (out-Group y).body) (sym c.index-groups-i.is)) c.requires.run.fits in
+    (c.in_ok-f.ensures c.requires.run.scope c.requires.run.program fits).flow
+
+pub cases-loop-i-preserved : goal.cases-loop-i-preserved
+cases-loop-i-preserved t c =
+    let a = c.args.at.now in
+    let groups = c.args.groups.now in
+    let i = c.loop-i.i in
+    let x = c.index-groups-i.result in
+    let N = c.in_ok-entries.ensures in
+    let h = c.loop-i-test.true in
+    let n = N.count in
+    let few : i < length c.in_ok-entries.entries.groups.items = omega (arith, h, n) in
+    let at_i = placed_get c.in_ok-entries.entries.groups.items i c.index-entry.result.now few c.index-entry.ensures in
+    let k : suc i ≡ i + 1 = omega arith in
+    let fits = group_fits c.requires.run.scope groups i x c.as_slice.result.now h c.index-groups-i.is (c.as_slice.ensures ∙ ap (λ (y : Group). (out-Group y).body) (sym c.index-groups-i.is)) c.requires.run.fits in
+    subst (λ j. CasesLeft a c.enter_groups.new.net c.merged.new.net c.args.state.now c.block.new.state groups j c.args.guard (λ v. entered_case (number_of c.args.ty v c.args.value) groups) c.in_ok-ways.ways) k
+    (cases_more a c.enter_groups.new.net c.loop-i.net c.entered.new.net c.block.new.net c.merged.new.net c.args.state.now c.loop-i.state c.block.new.state groups i x c.as_slice.result.now c.args.guard c.index-entry.result.now (λ v. entered_case (number_of c.args.ty v c.args.value) groups)
+    c.loop-i.ways c.in_ok-here.here c.in_ok-f.f c.in_ok-ways.ways (group_here groups i x h c.index-groups-i.is) (c.as_slice.ensures ∙ ap (λ (y : Group). (out-Group y).body) (sym c.index-groups-i.is)) c.loop-i.invariant (λ v r. N.enters v r i c.index-entry.result.now at_i)
+    (λ v r. guard_below v c.enter_groups.new.net.terms c.args.guard N.adds.proper r (guard_kept c.args.net.now c.enter_groups.new.net c.args.guard N.adds c.requires.run.guard)) c.in_ok-here.ensures c.requires.run.scope c.requires.run.program fits c.in_ok-f.ensures
+    (λ d f. group_fits d groups i x c.as_slice.result.now h c.index-groups-i.is (c.as_slice.ensures ∙ ap (λ (y : Group). (out-Group y).body) (sym c.index-groups-i.is)) f) c.in_ok-ways.ensures)
+
+pub cases-entered-requires-2-clause-ways : goal.cases-entered-requires-2-clause-ways
+cases-entered-requires-2-clause-ways t c = c.loop-i.invariant.flow
+
+pub cases-entered-requires-2-clause-entry : goal.cases-entered-requires-2-clause-entry
+cases-entered-requires-2-clause-entry t c = guard_grows c.enter_groups.new.net.terms c.loop-i.net.terms c.in_ok-entries.entries.past c.loop-i.invariant.grows c.in_ok-entries.ensures.has_past
+
+pub cases-switched-requires : goal.cases-switched-requires
+cases-switched-requires t c = c.in_ok-last.ensures.has
+
+pub cases-returns : goal.cases-returns
+cases-returns t c =
+    let groups = c.args.groups.now in
+    let i = c.loop-i.i in
+    let h = c.loop-i-test.false in
+    let over : drop i groups ≡ [] = drop_of_length-le groups (omega (arith, h)) in
+    λ d inside fits.
+    cases_last c.args.at.now c.args.net.now c.enter_groups.new.net c.loop-i.net c.entered-2.new.net c.switched.new.net c.args.state.now c.loop-i.state groups i c.args.guard c.in_ok-entries.entries.past c.in_ok-entries.entries.groups.items c.args.ty c.args.value c.loop-i.ways c.in_ok-last.last c.in_ok-f-2.f
+    over (omega (arith, h)) c.requires.run.guard c.in_ok-entries.ensures c.loop-i.invariant c.in_ok-last.ensures c.in_ok-f-2.ensures d inside fits
