@@ -6,11 +6,12 @@ use denote.Hole.Carrier.{hidden, out, shown}
 use Rattle.joint_ir.specs.declared.expr.TExpr.{TExpr}
 use Rattle.joint_ir.specs.declared.program.CProgram.{CProgram}
 use Rattle.joint_ir.specs.declared.program.Function.{Function}
-use Rattle.joint_ir.specs.declared.stmt.SNode.{SNode, Block, If, Row_of-TStmt, end_of-TStmt, more_of-TStmt, None', Some'}
-use Rattle.joint_ir.specs.declared.stmt.SNode.TheBlock.{hidden-the_row-TStmt-0, hidden-the_row-TStmt-1, items-the_row-TStmt, items_hidden-the_row-TStmt-0, items_shown-the_row-TStmt-0, shown-the_row-TStmt-0, shown-the_row-TStmt-1}
+use Rattle.joint_ir.specs.declared.stmt.Group.{Group, Group', out-Group}
+use Rattle.joint_ir.specs.declared.stmt.SNode.{SNode, Block, If, Switch, Row_of-TStmt, end_of-TStmt, more_of-TStmt, Row_of-Group, end_of-Group, more_of-Group, None', Some'}
+use Rattle.joint_ir.specs.declared.stmt.SNode.TheBlock.{hidden-the_row-TStmt-0, hidden-the_row-TStmt-1, items-the_row-TStmt, items_hidden-the_row-TStmt-0, items_shown-the_row-TStmt-0, shown-the_row-TStmt-0, shown-the_row-TStmt-1, hidden-the_row-Group-2, items-the_row-Group, items_hidden-the_row-Group-2}
 use Rattle.joint_ir.specs.declared.stmt.TLoop.{TLoop, TLoop', out-TLoop}
 use Rattle.joint_ir.specs.declared.stmt.TStmt.{TStmt}
-use Rattle.unwound_forms.specs.Made.{stmt_is_made, row_is_made, loop_is_made, items_are_made, option_is_made, function_is_made, functions_are_made}
+use Rattle.unwound_forms.specs.Made.{stmt_is_made, row_is_made, groups_are_made, group_is_made, loop_is_made, items_are_made, cases_are_made, option_is_made, function_is_made, functions_are_made}
 
 module _ (p : CProgram) where
   row_made : {m : _} (row : Row_of-TStmt m) → row_is_made p row ≡ items_are_made p (items-the_row-TStmt _ row)
@@ -19,6 +20,17 @@ module _ (p : CProgram) where
 
   pub block_made : (node : SNode) (items got : List TStmt) → node ≡ Block items → got ≡ items → stmt_is_made p node ≡ items_are_made p got
   block_made node items got is is_got = ap (stmt_is_made p) is ∙ row_made (hidden-the_row-TStmt-0 items) ∙ ap (items_are_made p) (items_hidden-the_row-TStmt-0 items ∙ sym is_got)
+
+  group_made : (g : Group) → group_is_made p g ≡ items_are_made p (out-Group g).body
+  unfolding out-Group out shown-the_row-TStmt-0
+  group_made (Group' labels shape row) = row_made row ∙ ap (items_are_made p) (sym (items_shown-the_row-TStmt-0 shape row))
+
+  groups_made : {m : _} (row : Row_of-Group m) → groups_are_made p row ≡ cases_are_made p (items-the_row-Group _ row)
+  groups_made end_of-Group = refl
+  groups_made (more_of-Group g rest) = ap (λ b. b && groups_are_made p rest) (group_made g) ∙ ap (λ b. items_are_made p (out-Group g).body && b) (groups_made rest)
+
+  pub switch_made : (node : SNode) (e : TExpr) (groups got : List Group) → node ≡ Switch e groups → got ≡ groups → stmt_is_made p node ≡ cases_are_made p got
+  switch_made node e groups got is is_got = ap (stmt_is_made p) is ∙ groups_made (hidden-the_row-Group-2 groups) ∙ ap (cases_are_made p) (items_hidden-the_row-Group-2 groups ∙ sym is_got)
 
   if_made_of : (e : TExpr) (a : TStmt) (other : Option TStmt) → stmt_is_made p (If e a other) ≡ stmt_is_made p a.node && option_is_made p other
   unfolding hidden-the_row-TStmt-0 hidden-the_row-TStmt-1 hidden
@@ -38,6 +50,9 @@ module _ (p : CProgram) where
   -- one statement more, and one function more
   pub items_more : (items : List TStmt) (i : ℕ) (s : TStmt) → i < length items → s ≡ get_or items i s → items_are_made p (drop i items) ≡ stmt_is_made p s.node && items_are_made p (drop (i + 1) items)
   items_more items i s lt is = ap (items_are_made p) (drop_more items i s lt) ∙ ap (λ (x : TStmt). stmt_is_made p x.node && items_are_made p (drop (i + 1) items)) (sym is)
+
+  pub cases_more : (groups : List Group) (i : ℕ) (g : Group) → i < length groups → g ≡ get_or groups i g → cases_are_made p (drop i groups) ≡ items_are_made p (out-Group g).body && cases_are_made p (drop (i + 1) groups)
+  cases_more groups i g lt is = ap (cases_are_made p) (drop_more groups i g lt) ∙ ap (λ (x : Group). items_are_made p (out-Group x).body && cases_are_made p (drop (i + 1) groups)) (sym is)
 
   pub functions_more : (fns : List Function) (i : ℕ) (fn : Function) → i < length fns → fn ≡ get_or fns i fn → functions_are_made p (drop i fns) ≡ function_is_made p fn && functions_are_made p (drop (i + 1) fns)
   functions_more fns i fn lt is = ap (functions_are_made p) (drop_more fns i fn lt) ∙ ap (λ (x : Function). function_is_made p x && functions_are_made p (drop (i + 1) fns)) (sym is)

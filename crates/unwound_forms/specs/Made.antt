@@ -3,7 +3,8 @@ use Rattle.std.specs.Prelude.{ℕ, nat_eq, Bool, true, false, ◌&&◌, if◌the
 use Rattle.joint_ir.specs.declared.ctype.IntType.{IntType}
 use Rattle.joint_ir.specs.declared.program.CProgram.{CProgram}
 use Rattle.joint_ir.specs.declared.program.Function.{Function}
-use Rattle.joint_ir.specs.declared.stmt.SNode.{SNode, Block', Declare, Store, Update, Call, If', Loop, Switch', Break, Continue, Return, Assert, Assume, SetInputs, NextFrame, Row_of-TStmt, end_of-TStmt, more_of-TStmt, Held-SNode-If-2, None', Some'}
+use Rattle.joint_ir.specs.declared.stmt.Group.{Group, Group', out-Group}
+use Rattle.joint_ir.specs.declared.stmt.SNode.{SNode, Block', Declare, Store, Update, Call, If', Loop, Switch', Break, Continue, Return, Assert, Assume, SetInputs, NextFrame, Row_of-TStmt, end_of-TStmt, more_of-TStmt, Held-SNode-If-2, None', Some', Row_of-Group, end_of-Group, more_of-Group}
 use Rattle.joint_ir.specs.declared.stmt.TCall.{TCall}
 use Rattle.joint_ir.specs.declared.stmt.TInit.{TInit}
 use Rattle.joint_ir.specs.declared.stmt.TInit.TheVariants.{Free, Values, Called}
@@ -73,7 +74,7 @@ abbrev mutual
   stmt_is_made p (Call call) = call_is_made p call
   stmt_is_made p (If' e _ (more_of-TStmt q a _) other) = stmt_is_made p a && other_is_made p other
   stmt_is_made p (Loop loop) = loop_is_made p loop
-  stmt_is_made p (Switch' e _ groups) = false
+  stmt_is_made p (Switch' e _ groups) = groups_are_made p groups
   stmt_is_made p Break = true
   stmt_is_made p Continue = true
   stmt_is_made p (Return init) = return_is_made p init
@@ -92,6 +93,15 @@ abbrev mutual
   other_is_made p None' = true
   other_is_made p (Some' _ (more_of-TStmt q a _)) = stmt_is_made p a
 
+  -- the groups of a `switch`
+  pub groups_are_made : {m : _} → CProgram → Row_of-Group m → Bool
+  groups_are_made p end_of-Group = true
+  groups_are_made p (more_of-Group g rest) = group_is_made p g && groups_are_made p rest
+
+  -- the statements of a group
+  pub group_is_made : CProgram → Group → Bool
+  group_is_made p (Group' labels _ row) = row_is_made p row
+
   -- the first part of a loop, its body and its last part
   pub loop_is_made : CProgram → TLoop → Bool
   loop_is_made p (TLoop' tests_first _ heads cond step _ (more_of-TStmt q body _) prop) = row_is_made p heads && (stmt_is_made p body && other_is_made p step)
@@ -100,6 +110,11 @@ abbrev mutual
 abbrev pub items_are_made : CProgram → List TStmt → Bool
 items_are_made p [] = true
 items_are_made p (x ∷ items) = stmt_is_made p x.node && items_are_made p items
+
+-- groups of a `switch`, as a list
+abbrev pub cases_are_made : CProgram → List Group → Bool
+cases_are_made p [] = true
+cases_are_made p (g ∷ groups) = items_are_made p (out-Group g).body && cases_are_made p groups
 
 -- a statement that may be left out
 abbrev pub option_is_made : CProgram → Option TStmt → Bool

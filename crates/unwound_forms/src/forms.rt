@@ -3,9 +3,11 @@
 ghost use Rattle.std.specs.Prelude.{◌≡◌, nat_eq};
 ghost use Rattle.joint_ir.specs.declared.expr.Slot.TheVariants.{Local};
 ghost use Rattle.joint_ir.specs.Weights.{slot_length};
-ghost use Rattle.unwound_forms.specs.Made.{stmt_is_made, items_are_made, option_is_made, loop_is_made, opens, call_is_made, init_is_made, return_is_made, array_is_made, declare_is_made, update_is_made, function_is_made, program_is_made};
+ghost use Rattle.unwound_forms.specs.Made.{stmt_is_made, items_are_made, cases_are_made, option_is_made, loop_is_made, opens, call_is_made, init_is_made, return_is_made, array_is_made, declare_is_made, update_is_made, function_is_made, program_is_made};
 
-use joint_ir::{CProgram, Function, SNode, Slot, TCall, TInit, TLoop, TStmt, TTarget, lookup};
+use joint_ir::{
+    CProgram, Function, Group, SNode, Slot, TCall, TInit, TLoop, TStmt, TTarget, lookup,
+};
 use sqlite_items::Boxed;
 
 /// Whether a function has no body and gives a result.
@@ -105,6 +107,7 @@ fn is_stmt_made(program: &CProgram, s: &TStmt) -> bool
         SNode::If(_, body, other) => is_stmt_made(program, body.get())
             && is_option_made(program, other),
         SNode::Loop(one) => is_loop_made(program, one),
+        SNode::Switch(_, groups) => are_cases_made(program, groups.as_slice()),
         SNode::Break | SNode::Continue | SNode::Assert(..) | SNode::Assume(_) => true,
         _ => false,
     }
@@ -117,6 +120,19 @@ fn are_items_made(program: &CProgram, items: &[TStmt]) -> bool
 {
     for s in items {
         if !is_stmt_made(program, s) {
+            return false;
+        }
+    }
+    true
+}
+
+/// Whether the statements of the groups of a `switch` are.
+#[cycle(forms)]
+fn are_cases_made(program: &CProgram, groups: &[Group]) -> bool
+    ensures { result ≡ cases_are_made program.now groups.now }
+{
+    for group in groups {
+        if !are_items_made(program, group.body.as_slice()) {
             return false;
         }
     }

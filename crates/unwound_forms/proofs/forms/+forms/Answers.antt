@@ -1,7 +1,7 @@
 use Rattle.std.proofs.Common.{refl, ap, ◌∙◌, sym}
 use Rattle.unwound_forms.specs.Made.{stmt_is_made, items_are_made}
 use Rattle.joint_ir.specs.declared.stmt.TStmt.{TStmt}
-use Rattle.unwound_forms.proofs.Cases.{block_made, if_made, loop_made, both_true, one_false, last_false}
+use Rattle.unwound_forms.proofs.Cases.{block_made, switch_made, if_made, loop_made, both_true, one_false, last_false}
 use Rattle.unwound_forms.proofs.forms.+forms.Goals as goal
 
 pub is_stmt_made-returns-in-Block : goal.is_stmt_made-returns-in-Block
@@ -32,3 +32,6 @@ pub is_loop_made-returns : goal.is_loop_made-returns
 is_loop_made-returns t c =
     both_true _ _ _ _ _ (c.is_stmt_made.ensures ∙ ap (λ (s : TStmt). stmt_is_made c.args.program.now s.node) c.get.ensures) c.if-not-is_stmt_made.false c.is_option_made.ensures
     (sym (both_true _ _ _ _ _ (c.are_items_made.ensures ∙ ap (items_are_made c.args.program.now) c.as_slice.ensures) c.if-not-are_items_made.false refl (loop_made c.args.program.now c.args.one.now)))
+
+pub is_stmt_made-returns-in-Switch : goal.is_stmt_made-returns-in-Switch
+is_stmt_made-returns-in-Switch t c = c.are_cases_made.ensures ∙ sym (switch_made c.args.program.now c.args.s.now.node c.in-Switch.field-0 c.in-Switch.groups c.as_slice-in-Switch.result.now c.in-Switch.is c.as_slice-in-Switch.ensures)
