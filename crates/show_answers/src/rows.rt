@@ -59,6 +59,7 @@ pub const PLAIN: [&str; 54] = [
 ];
 
 /// Words, and the call of the files or of the output that fails, by its number, or 0.
+#[derive(Drop)]
 pub struct Faulty {
     pub words: &'static str,
     pub read: u64,
