@@ -30,12 +30,6 @@ fn words_of(alloc: Global, row: &str) -> Result<Vec<String>, AllocError> {
     Ok(words)
 }
 
-fn choosers(alloc: Global) -> Result<Choosers, AllocError> {
-    let order: Box<dyn Chooser> = Box::new(alloc, OrderChooser::new(alloc))?;
-    let activity: Box<dyn Chooser> = Box::new(alloc, ActivityChooser::new(alloc))?;
-    Ok(Choosers { order, activity })
-}
-
 fn print_bytes<R: Print>(rt: &R, bytes: &[u8]) -> io::Result<()> {
     match str::from_utf8(bytes) {
         Ok(text) => print!(rt; "{text}"),
@@ -60,6 +54,8 @@ fn print_row<R: Print + AllocGlobal>(
     out.fail_at(write)?;
     let mut err = MemSink::new(alloc, PIECE, ROOM)?;
     let words = words_of(alloc, row)?;
+    let order: Box<dyn Chooser> = Box::new(alloc, OrderChooser::new(alloc))?;
+    let activity: Box<dyn Chooser> = Box::new(alloc, ActivityChooser::new(alloc))?;
     println!(rt; "> {row}")?;
     let ran = run(
         alloc,
@@ -67,7 +63,7 @@ fn print_row<R: Print + AllocGlobal>(
         &mut files,
         &mut out,
         &mut err,
-        choosers(alloc)?,
+        Choosers { order, activity },
     );
     print_bytes(rt, out.bytes())?;
     print_bytes(rt, err.bytes())?;
