@@ -6,7 +6,7 @@ mod rows;
 mod texts;
 
 use cdcl::{ActivityChooser, Chooser, Choosers, OrderChooser};
-use hwcbmc_core::{Kept, run};
+use hwcbmc_core::{Kept, Ran, run};
 use io_edge::{MemFiles, MemSink, RealFiles, read_all};
 use rows::{FAULTY, Faulty, PLAIN};
 use std::alloc::{AllocError, Global};
@@ -28,6 +28,20 @@ fn words_of(alloc: Global, row: &str) -> Result<Vec<String>, AllocError> {
         words.push(String::from_str(alloc, word)?)?;
     }
     Ok(words)
+}
+
+/// Runs the command with new choosers.
+fn run_once(
+    alloc: Global,
+    words: &[String],
+    files: &mut MemFiles,
+    out: &mut MemSink,
+    err: &mut MemSink,
+) -> Result<Ran, AllocError> {
+    let order: Box<dyn Chooser> = Box::new(alloc, OrderChooser::new(alloc))?;
+    let activity: Box<dyn Chooser> = Box::new(alloc, ActivityChooser::new(alloc))?;
+    let choosers = Choosers { order, activity };
+    Ok(run(alloc, words, files, out, err, choosers))
 }
 
 fn print_bytes<R: Print>(rt: &R, bytes: &[u8]) -> io::Result<()> {
@@ -54,17 +68,8 @@ fn print_row<R: Print + AllocGlobal>(
     out.fail_at(write)?;
     let mut err = MemSink::new(alloc, PIECE, ROOM)?;
     let words = words_of(alloc, row)?;
-    let order: Box<dyn Chooser> = Box::new(alloc, OrderChooser::new(alloc))?;
-    let activity: Box<dyn Chooser> = Box::new(alloc, ActivityChooser::new(alloc))?;
     println!(rt; "> {row}")?;
-    let ran = run(
-        alloc,
-        words.as_slice(),
-        &mut files,
-        &mut out,
-        &mut err,
-        Choosers { order, activity },
-    );
+    let ran = run_once(alloc, words.as_slice(), &mut files, &mut out, &mut err)?;
     print_bytes(rt, out.bytes())?;
     print_bytes(rt, err.bytes())?;
     let kept = match ran.kept {
