@@ -1,0 +1,5 @@
+pub mod Drawn
+pub mod Rows
+pub mod Taken
+pub mod Links
+pub mod Showing

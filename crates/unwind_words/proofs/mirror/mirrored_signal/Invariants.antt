@@ -1,0 +1,7 @@
+use Rattle.std.proofs.Common.{◌≡◌, drop, eqb}
+use Rattle.std.specs.List.{find}
+use Rattle.unwind_words.proofs.mirror.mirrored_signal.Given as goal
+
+abbrev pub invariant-loop-link : goal.invariant-loop-link
+invariant-loop-link l =
+    find (λ x. eqb x.member l.member) l.links ≡ find (λ x. eqb x.member l.member) (drop l.link-index l.links)
