@@ -15,6 +15,7 @@ use Rattle.sized_terms.specs.Sized.{bits}
 use Rattle.unrolled.specs.declared.Unrolled.{Unrolled}
 use Rattle.unwind_state.specs.Guards.{Adds}
 use Rattle.unwind_state.specs.Images.{words, numbers}
+use Rattle.unwind_state.specs.Unwinding.{Grows}
 use Rattle.unwind_state.proofs.Gates.{adds_none}
 use Rattle.unwind_module.proofs.Terms.{grows_adds, terms_none, terms_kept, terms_push, sized_is}
 use Rattle.unwind.specs.Rows.{IsElement, ArePart, IsRow, AreRows, HasRow}
@@ -31,10 +32,10 @@ element_kept n0 n1 n2 ty t n A E = record {
 pub part_none : (g : Graph) (x : Var) → ArePart g x 0 []
 part_none g x = record { terms = terms_none g; stand = λ v r. refl }
 
-pub part_kept : (n0 n1 : Unrolled) (x : Var) (k : ℕ) (ids : List TermId) → Adds n0 n1 → ArePart n0.terms x k ids → ArePart n1.terms x k ids
-part_kept n0 n1 x k ids A P = record {
-  terms = terms_kept n0.terms n1.terms ids (copies k x.ty.bits) (grows_adds n0 n1 A) P.terms;
-  stand = λ v r. P.stand v (A.grown v r);
+pub part_grown : (n0 n1 : Unrolled) (x : Var) (k : ℕ) (ids : List TermId) → Grows n0.terms n1.terms → ArePart n0.terms x k ids → ArePart n1.terms x k ids
+part_grown n0 n1 x k ids G P = record {
+  terms = terms_kept n0.terms n1.terms ids (copies k x.ty.bits) G P.terms;
+  stand = λ v r. P.stand v (G.grown v r);
 }
 
 copies_next : (k w : ℕ) → copies (suc k) w ≡ copies k w ++ w ∷ []
@@ -71,11 +72,14 @@ rows_more g vars rows k x ids lt e a h =
     let d : take (k + 1) vars ≡ take k vars ++ x ∷ [] = take_more vars k x lt ∙ ap (λ y. take k vars ++ y ∷ []) (sym e) in
     subst (λ l. AreRows g l (rows ++ ids ∷ [])) (sym d) (rows_push g (take k vars) rows x ids a h)
 
+pub rows_grown : (n0 n1 : Unrolled) (vars : List Var) (rows : List (List TermId)) → Grows n0.terms n1.terms → AreRows n0.terms vars rows → AreRows n1.terms vars rows
+rows_grown n0 n1 [] [] G a = tt
+rows_grown n0 n1 [] (row ∷ rows) G a = absurd a
+rows_grown n0 n1 (x ∷ vars) [] G a = absurd a
+rows_grown n0 n1 (x ∷ vars) (row ∷ rows) G a = (part_grown n0 n1 x (element_count x.length) row G a.0, rows_grown n0 n1 vars rows G a.1)
+
 pub rows_kept : (n0 n1 : Unrolled) (vars : List Var) (rows : List (List TermId)) → Adds n0 n1 → AreRows n0.terms vars rows → AreRows n1.terms vars rows
-rows_kept n0 n1 [] [] A a = tt
-rows_kept n0 n1 [] (row ∷ rows) A a = absurd a
-rows_kept n0 n1 (x ∷ vars) [] A a = absurd a
-rows_kept n0 n1 (x ∷ vars) (row ∷ rows) A a = (part_kept n0 n1 x (element_count x.length) row A a.0, rows_kept n0 n1 vars rows A a.1)
+rows_kept n0 n1 vars rows A a = rows_grown n0 n1 vars rows (grows_adds n0 n1 A) a
 
 -- the number of elements, by the code's test
 pub count_one : (n count : ℕ) → n ≡ 0 → count ≡ 1 → count ≡ element_count n

@@ -1,5 +1,5 @@
--- The state in which a run begins, where the module is bare.
-use Rattle.std.proofs.Common.{◌≡◌, ℕ, zero, suc, ◌%◌, ◌<◌, ◌≤◌, ◌^◌, List, [], ◌∷◌, length, map, refl, sym, ap, ◌∙◌, subst, arith}
+-- The state in which a run begins.
+use Rattle.std.proofs.Common.{◌≡◌, ℕ, zero, suc, ◌%◌, ◌<◌, ◌≤◌, ◌^◌, List, [], ◌∷◌, ◌++◌, length, map, refl, sym, ap, ◌∙◌, subst, arith}
 use Rattle.std.specs.Prelude.{ℤ, pos, slice_index_or, slice_get, Option, Some, None, IfSome}
 use Rattle.std.proofs.lemmas.List.{length-map}
 use Rattle.bits_core.specs.Word.{number}
@@ -13,15 +13,13 @@ use Rattle.joint_ir.specs.declared.module.Role.{Role}
 use Rattle.joint_ir.specs.declared.module.Role.TheVariants.{Input, Register, Wire}
 use Rattle.joint_ir.specs.declared.pair.Pair.{Pair}
 use Rattle.joint_ir.specs.declared.program.Function.{Function}
-use Rattle.joint_ir.specs.declared.program.Member.{Member as AMember}
-use Rattle.joint_ir.specs.declared.program.MirrorDecl.{MirrorDecl}
 use Rattle.joint_ir.specs.declared.program.Var.{Var}
 use Rattle.joint_ir.specs.Effects.{Effect, Onward, draw_all}
 use Rattle.joint_ir.specs.Runs.{draw_registers, with_first_state}
 use Rattle.joint_ir.specs.States.{JointState, View, copies, element_count, first_rows, row_at}
 use Rattle.joint_ir.specs.Steps.{type_or_int, result_of, slot_type, var_type, settled_view}
 use Rattle.joint_ir.specs.Types.{IsType, Truth, Byte, Half, Single, Double}
-use Rattle.joint_ir.specs.Views.{widths_of, site_widths, settled_wires, term_numbers, filled, filled_from, view_words, members_of}
+use Rattle.joint_ir.specs.Views.{widths_of, site_widths, filled, members_of}
 use Rattle.joint_ir.specs.Weights.{slot_length, var_length}
 use Rattle.joint_ir.specs.WellFormed.{AreTerms, IsWellFormed}
 use Rattle.sized_terms.specs.declared.SizedTerm.{SizedTerm}
@@ -30,17 +28,25 @@ use Rattle.unrolled.specs.declared.Objects.{Objects}
 use Rattle.unrolled.specs.declared.Unrolled.{Unrolled}
 use Rattle.unrolled.specs.Elements.{terms_of}
 use Rattle.trails.specs.Trails.{trail}
-use Rattle.trails.proofs.Ways.{preceded_nothing}
 use Rattle.unwind_state.specs.declared.state.State.{State}
+use Rattle.unwind_state.specs.Guards.{Adds}
+use Rattle.unwind_state.specs.Unwinding.{Grows}
 use Rattle.unwind_state.specs.Images.{look, words, words_at, numbers, IsState}
 use Rattle.unwind_state.specs.Writing.{HasObjects, IsThere, sized}
 use Rattle.unwind_state.proofs.Gates.{adds_built, adds_then}
 use Rattle.unwind_module.specs.Starting.{Begins}
-use Rattle.unwind_module.specs.Words.{HasModule, member_elements}
-use Rattle.unwind_module.proofs.Terms.{terms_none, terms_head, terms_tail, terms_length}
+use Rattle.unwind_module.specs.Words.{HasModule}
+use Rattle.unwind_module.proofs.Terms.{grows_adds, grows_then, terms_kept, terms_head, terms_tail, terms_length}
+use Rattle.unwind_words.specs.Rows.{AreRows as TermRows, member_widths}
+use Rattle.unwind_words.proofs.Rows.{rows_kept as term_rows_kept}
+use Rattle.unwind_frames.specs.declared.beginning.FirstView.{FirstView}
+use Rattle.unwind_frames.specs.Firsts.{AreFirstSources, IsFirstView}
+use Rattle.unwind_frames.specs.Frames.{settled_from}
+use Rattle.unwind_frames.proofs.Firstly.{three_more, three_reads, three_list, three_through, three_draws}
+use Rattle.unwind_frames.proofs.Refreshing.{member_count, member_has, row_lengths, shown_at, shown_count}
 use Rattle.unwind.specs.Rows.{IsRow, AreRows, HasRows}
-use Rattle.unwind.specs.Whole.{IsBare, HasFirstObjects}
-use Rattle.unwind.proofs.Parts.{rows_kept}
+use Rattle.unwind.specs.Whole.{HasFirstObjects}
+use Rattle.unwind.proofs.Parts.{rows_kept, rows_grown}
 
 -- the width of a type is one of a word
 type_width : (t : IntType) → IsType t → (0 < t.bits) × (t.bits ≤ 128)
@@ -88,12 +94,8 @@ rows_count g v [] (row ∷ rows) a = absurd a
 rows_count g v (x ∷ vars) [] a = absurd a
 rows_count g v (x ∷ vars) (row ∷ rows) a = ap suc (rows_count g v vars rows a.1)
 
-no_member : (mirror : Option MirrorDecl) (i : ℕ) (m : AMember) → mirror ≡ None → slice_get (members_of mirror) i ≡ Some m → ⊥
-no_member None i m e at = let d : None ≡ Some m = at in cc
-no_member (Some mirror) i m e at = cc
-
-pub first_has : (p : Pair) (n : Unrolled) (o : Objects) → p.program.mirror ≡ None → AreRows n.terms p.program.globals o.globals.items → AreRows n.terms p.program.locals o.locals.items → HasObjects p.program n.terms o
-first_has p n o none globals locals = record { count = count; has = has }
+pub first_has : (p : Pair) (n : Unrolled) (o : Objects) → TermRows n.terms o.members.items (member_widths (members_of p.program.mirror)) → AreRows n.terms p.program.globals o.globals.items → AreRows n.terms p.program.locals o.locals.items → HasObjects p.program n.terms o
+first_has p n o mirror globals locals = record { count = count; has = has }
   where
     count : (slot : Slot) → IsThere p.program slot → length (terms_of o slot) ≡ element_count (slot_length p.program slot)
     count (Global i) lt =
@@ -102,7 +104,7 @@ first_has p n o none globals locals = record { count = count; has = has }
     count (Local i) lt =
         let a = row_at_is n.terms p.program.locals o.locals.items i locals lt in
         row_length n.terms a.0 (slice_index_or o.locals.items i []) a.2 ∙ ap (λ (y : Option Var). element_count (var_length y)) (sym a.1)
-    count (Member i) h = absurd (no_member p.program.mirror i h.0 none h.1)
+    count (Member i) h = member_count p n.terms o.members.items mirror i h
     count BoundValue h = absurd h
 
     has : (slot : Slot) → IsThere p.program slot → (k : ℕ) (t : TermId) → slice_get (terms_of o slot) k ≡ Some t → Has n.terms (sized t (slot_type p.program slot).bits)
@@ -112,124 +114,124 @@ first_has p n o none globals locals = record { count = count; has = has }
     has (Local i) lt k t e =
         let a = row_at_is n.terms p.program.locals o.locals.items i locals lt in
         subst (λ (y : Option Var). Has n.terms (sized t (var_type y).bits)) (sym a.1) (term_has n.terms (element_count a.0.length) a.0.ty.bits (slice_index_or o.locals.items i []) k t a.2.terms e)
-    has (Member i) h k t e = absurd (no_member p.program.mirror i h.0 none h.1)
+    has (Member i) h k t e = member_has p n.terms o.members.items mirror i h k t e
     has BoundValue h k t e = absurd h
 
--- nothing is drawn
-none_drawn : (firsts : List (Option ℕ)) (ws ws' ws'' c : List ℕ) (go : List ℕ → List ℕ → List ℕ → List ℕ → Effect) → ws ≡ [] → ws' ≡ [] → ws'' ≡ [] →
-    draw_registers firsts ws c (λ registers c'. draw_all ws' c' (λ inputs c''. draw_all ws'' c'' (λ unknown rest. go registers inputs unknown rest))) ≡ go [] [] [] c
-none_drawn firsts ws ws' ws'' c go e e' e'' =
-    ap (λ l. draw_registers firsts l c (λ registers c'. draw_all ws' c' (λ inputs c''. draw_all ws'' c'' (λ unknown rest. go registers inputs unknown rest)))) e
-    ∙ ap (λ l. draw_registers firsts [] c (λ registers c'. draw_all l c' (λ inputs c''. draw_all ws'' c'' (λ unknown rest. go registers inputs unknown rest)))) e'
-    ∙ ap (λ l. draw_registers firsts [] c (λ registers c'. draw_all l c' (λ unknown rest. go registers [] unknown rest))) e'' ∙ none firsts
-  where
-    none : (fs : List (Option ℕ)) → draw_registers fs [] c (λ registers c'. go registers [] [] c') ≡ go [] [] [] c
-    none [] = refl
-    none (f ∷ fs) = refl
-
-no_terms : (f : TermId → ℕ) (ids : List TermId) → map f ids ≡ [] → ids ≡ []
-no_terms f [] e = refl
-no_terms f (t ∷ ids) e = let d : f t ∷ map f ids ≡ [] = e in cc
-
--- the state in which a run begins
-first_state : Pair → JointState
-first_state p = record {
-  store = record { globals = first_rows p.program.globals; locals = first_rows p.program.locals; members = filled p (settled_view p.module [] [] []) };
-  view = settled_view p.module [] [] [];
+-- the state in which a run begins, given its first view
+first_state : Pair → View → JointState
+first_state p v = record {
+  store = record { globals = first_rows p.program.globals; locals = first_rows p.program.locals; members = filled p v };
+  view = v;
   edges = 0;
   returned = pos 0;
 }
 
 -- the state of the unwinding there
-abbrev pub bare_state : Objects → (registers inputs unknown wires : List TermId) → SizedTerm → SizedTerm → State
-bare_state o registers inputs unknown wires edges result = record { objects = o; registers = registers; inputs = inputs; unknown = unknown; wires = wires; edges = edges; result = result }
+abbrev pub first_terms : Objects → FirstView → SizedTerm → State
+first_terms o made result = record {
+  objects = record { globals = o.globals; locals = o.locals; members = made.filled.members };
+  registers = made.sources.registers;
+  inputs = made.sources.inputs;
+  unknown = made.sources.unknown;
+  wires = made.filled.wires;
+  edges = made.sources.edges;
+  result = result;
+}
 
-module _ (p : Pair) (well : IsWellFormed p) (bare : IsBare p) where
-  no_widths : (role : Role) → widths_of role p.module.signals ≡ []
-  no_widths role = ap (widths_of role) bare.signals
+module _ (p : Pair) (n0 n1 n3 n4 : Unrolled) (o : Objects) (made : FirstView) (result : SizedTerm) (w : ℕ) (none : n0.list ≡ []) (O : HasFirstObjects p n0 n1 o) (F : IsFirstView p n1 n3 made) (R : IsMade n3.terms n4.terms w 0 1 result (λ v. 0 % 2 ^ w)) (lr : n4.list ≡ n3.list)
+    (is : w ≡ (type_or_int (result_of (slice_get p.program.functions p.program.main))).bits) where
+  abbrev D : AreFirstSources p n1 F.n1 made.sources
+  D = F.drawn
 
-  no_sites : site_widths p.module.settle_sites ≡ []
-  no_sites = ap site_widths bare.sites
+  abbrev L34 : Adds n3 n4
+  L34 = adds_built n3 n4 0 1 R.builds lr
 
-  no_wires : settled_wires p.module [] [] [] ≡ []
-  no_wires =
-      let e : p.module.settled ≡ [] = no_terms (λ (t : TermId). width_in p.module.settle_terms t.0) p.module.settled (well.module_.settled.sized ∙ no_widths Wire) in
-      ap (term_numbers p.module.settle_terms []) e
+  abbrev L24 : Adds F.n1 n4
+  L24 = adds_then F.n1 n3 n4 F.filled_.adds L34
 
-  no_mirror : (v : View) → filled p v ≡ []
-  no_mirror v = ap (λ (m : Option MirrorDecl). filled_from p.binding.links p.module.signals (view_words p.module v) 0 (members_of m)) bare.mirror
+  abbrev L : Adds D.n3 n4
+  L = adds_then D.n3 F.n1 n4 D.edges_.adds L24
 
-  runs_bare : (rest : List ℕ) (go : Onward) → with_first_state p rest go ≡ go (first_state p) rest
-  unfolding first_state
-  runs_bare rest go = none_drawn p.module.firsts (widths_of Register p.module.signals) (widths_of Input p.module.signals) (site_widths p.module.settle_sites) rest
-      (λ registers inputs unknown c. go (record {
-        store = record { globals = first_rows p.program.globals; locals = first_rows p.program.locals; members = filled p (settled_view p.module registers inputs unknown) };
-        view = settled_view p.module registers inputs unknown;
-        edges = 0;
-        returned = pos 0;
-      }) c) (no_widths Register) (no_widths Input) no_sites
+  G : Grows n1.terms n4.terms
+  G = grows_then n1.terms D.n1.terms n4.terms D.registers_.grows (grows_then D.n1.terms D.n2.terms n4.terms D.inputs_.grows (grows_then D.n2.terms D.n3.terms n4.terms D.unknown_.grows (grows_adds D.n3 n4 L)))
 
-  first_stands : (n : Unrolled) (o : Objects) (edges result : SizedTerm) (v : Values) → Respects v n.terms → bits v edges ≡ 0 → AreRows n.terms p.program.globals o.globals.items → AreRows n.terms p.program.locals o.locals.items → o.members.items ≡ [] →
-      IsState p [] (look v (bare_state o [] [] [] [] edges result)) (first_state p)
-  unfolding first_state
-  first_stands n o edges result v r begun globals locals members = record {
-    globals = λ i. rows_stand n.terms v p.program.globals o.globals.items i r globals;
-    locals = λ i c. absurd (omega (arith, c.1));
-    members = λ i. ap (λ (l : List (List TermId)). numbers (slot_type p.program (Member i)) (words_at (map (words v) l) i)) members ∙ ap (λ l. row_at l i) (sym (no_mirror (settled_view p.module [] [] [])));
-    global_count = rows_count n.terms v p.program.globals o.globals.items globals;
-    local_count = rows_count n.terms v p.program.locals o.locals.items locals;
-    member_count = ap (λ (l : List (List TermId)). length (map (words v) l)) members ∙ ap (λ (l : List (List ℤ)). length l) (sym (no_mirror (settled_view p.module [] [] [])));
-    local_lengths = λ i.
-        sym (length-map (words_at (map (words v) o.locals.items) i) (number (slot_type p.program (Local i)).signed (slot_type p.program (Local i)).bits))
-        ∙ ap (λ (l : List ℤ). length l) (rows_stand n.terms v p.program.locals o.locals.items i r locals);
-    registers = refl;
-    inputs = refl;
-    wires = sym no_wires;
-    edges = begun;
-  }
+  globals : AreRows n4.terms p.program.globals o.globals.items
+  globals = rows_grown n1 n4 p.program.globals o.globals.items G O.globals
 
-  has_module : (n : Unrolled) (o : Objects) (edges result : SizedTerm) → Has n.terms edges → edges.width ≡ 32 → o.members.items ≡ [] → HasModule p n.terms (bare_state o [] [] [] [] edges result)
-  has_module n o edges result h w members = record {
-    sources = record {
-      registers = subst (AreTerms n.terms []) (sym (no_widths Register)) (terms_none n.terms);
-      inputs = subst (AreTerms n.terms []) (sym (no_widths Input)) (terms_none n.terms);
-      unknown = subst (AreTerms n.terms []) (sym no_sites) (terms_none n.terms);
-      mirror = ap (map (λ (row : List TermId). length row)) members ∙ sym (ap (λ (m : Option MirrorDecl). map member_elements (members_of m)) bare.mirror);
-    };
-    wires = subst (AreTerms n.terms []) (sym (no_widths Wire)) (terms_none n.terms);
-    edges = h;
-    counter = w;
-  }
+  locals : AreRows n4.terms p.program.locals o.locals.items
+  locals = rows_grown n1 n4 p.program.locals o.locals.items G O.locals
 
-  begins_bare : (n0 n1 n2 n3 : Unrolled) (o : Objects) (edges result : SizedTerm) (w : ℕ) → n0.list ≡ [] → HasFirstObjects p n0 n1 o →
-      IsMade n1.terms n2.terms 32 0 1 edges (λ v. 0 % 2 ^ 32) → n2.list ≡ n1.list → IsMade n2.terms n3.terms w 0 1 result (λ v. 0 % 2 ^ w) → n3.list ≡ n2.list →
-      w ≡ (type_or_int (result_of (slice_get p.program.functions p.program.main))).bits → Begins p n3 (bare_state o [] [] [] [] edges result)
-  begins_bare n0 n1 n2 n3 o edges result w none O E le R lr is =
-      let A = adds_then n1 n2 n3 (adds_built n1 n2 0 1 E.builds le) (adds_built n2 n3 0 1 R.builds lr) in
-      let globals = rows_kept n1 n3 p.program.globals o.globals.items A O.globals in
-      let locals = rows_kept n1 n3 p.program.locals o.locals.items A O.locals in
+  first_module : HasModule p n4.terms (first_terms o made result)
+  first_module =
+      let g = grows_adds F.n1 n4 L24 in
+      let X = D.typed in
       record {
-        proper = R.builds.proper;
-        objects = first_has p n3 o bare.mirror globals locals;
-        module_ = has_module n3 o edges result (R.builds.kept edges E.has) E.width O.members;
-        result = R.has;
-        wide = R.width ∙ is;
-        settled = λ v r. sym no_wires;
-        reads = λ v. [];
-        through = λ v r. ap (trail v) (lr ∙ le ∙ O.adds.list ∙ none);
-        first = λ v. first_state p;
-        stands = λ v r. first_stands n3 o edges result v r (E.value v (R.builds.grown v r)) globals locals O.members;
-        runs = λ v r rest go. runs_bare rest go ∙ sym (preceded_nothing (go (first_state p) rest));
+        sources = record {
+          registers = terms_kept F.n1.terms n4.terms made.sources.registers (widths_of Register p.module.signals) g X.registers_;
+          inputs = terms_kept F.n1.terms n4.terms made.sources.inputs (widths_of Input p.module.signals) g X.inputs_;
+          unknown = terms_kept F.n1.terms n4.terms made.sources.unknown (site_widths p.module.settle_sites) g X.unknown_;
+          mirror = row_lengths n3.terms (members_of p.program.mirror) made.filled.members.items F.filled_.members_;
+        };
+        wires = terms_kept n3.terms n4.terms made.filled.wires (widths_of Wire p.module.signals) (grows_adds n3 n4 L34) F.filled_.wires_;
+        edges = g.kept made.sources.edges X.edges_;
+        counter = X.counter;
       }
 
-  -- the same with the lists of words as the code makes them
-  pub begins : (n0 n1 n2 n3 : Unrolled) (o : Objects) (a b c d : List TermId) (edges result : SizedTerm) (w : ℕ) → a ≡ [] → b ≡ [] → c ≡ [] → d ≡ [] → n0.list ≡ [] → HasFirstObjects p n0 n1 o →
-      IsMade n1.terms n2.terms 32 0 1 edges (λ v. 0 % 2 ^ 32) → n2.list ≡ n1.list → IsMade n2.terms n3.terms w 0 1 result (λ v. 0 % 2 ^ w) → n3.list ≡ n2.list →
-      w ≡ (type_or_int (result_of (slice_get p.program.functions p.program.main))).bits → Begins p n3 (bare_state o a b c d edges result)
-  begins n0 n1 n2 n3 o a b c d edges result w ea eb ec ed none O E le R lr is =
-      let B = begins_bare n0 n1 n2 n3 o edges result w none O E le R lr is in
-      subst (λ l. Begins p n3 (bare_state o l b c d edges result)) (sym ea) (subst (λ l. Begins p n3 (bare_state o [] l c d edges result)) (sym eb)
-      (subst (λ l. Begins p n3 (bare_state o [] [] l d edges result)) (sym ec) (subst (λ l. Begins p n3 (bare_state o [] [] [] l edges result)) (sym ed) B)))
+  view_at : Values → View
+  view_at v = settled_from p v made.sources
+
+  first_stands : (v : Values) → Respects v n4.terms → IsState p [] (look v (first_terms o made result)) (first_state p (view_at v))
+  unfolding first_state view_at
+  first_stands v r =
+      let r3 = L34.grown v r in
+      let rows = made.filled.members.items in
+      let S = F.filled_ in
+      record {
+        globals = λ i. rows_stand n4.terms v p.program.globals o.globals.items i r globals;
+        locals = λ i c. absurd (omega (arith, c.1));
+        members = shown_at p n3.terms rows S.members_ v (filled p (view_at v)) (map (words v) rows) refl (S.stand v r3);
+        global_count = rows_count n4.terms v p.program.globals o.globals.items globals;
+        local_count = rows_count n4.terms v p.program.locals o.locals.items locals;
+        member_count = shown_count p n3.terms rows S.members_ v (filled p (view_at v)) (map (words v) rows) refl (S.stand v r3);
+        local_lengths = λ i.
+            sym (length-map (words_at (map (words v) o.locals.items) i) (number (slot_type p.program (Local i)).signed (slot_type p.program (Local i)).bits))
+            ∙ ap (λ (l : List ℤ). length l) (rows_stand n4.terms v p.program.locals o.locals.items i r locals);
+        registers = refl;
+        inputs = refl;
+        wires = S.settled v r3;
+        edges = D.edges_.value v (L24.grown v r);
+      }
+
+  pub begins : Begins p n4 (first_terms o made result)
+  unfolding first_state view_at
+  begins =
+      let x = made.sources in
+      let dA = draw_registers p.module.firsts (widths_of Register p.module.signals) in
+      let dB = draw_all (widths_of Input p.module.signals) in
+      let dC = draw_all (site_widths p.module.settle_sites) in
+      let wa = widths_of Register p.module.signals in
+      let wb = widths_of Input p.module.signals in
+      let wc = site_widths p.module.settle_sites in
+      let A = D.registers_ in
+      let B = D.inputs_ in
+      let C = D.unknown_ in
+      let whole : n4.list ≡ three_more n1 D.n1 D.n2 D.n3 dA dB dC wa wb wc x.registers x.inputs x.unknown A B C =
+      L.list ∙ three_list n1 D.n1 D.n2 D.n3 dA dB dC wa wb wc x.registers x.inputs x.unknown A B C ∙ ap (λ l. l ++ three_more n1 D.n1 D.n2 D.n3 dA dB dC wa wb wc x.registers x.inputs x.unknown A B C) (O.adds.list ∙ none) in
+      record {
+        proper = R.builds.proper;
+        objects = first_has p n4 (record { globals = o.globals; locals = o.locals; members = made.filled.members })
+            (term_rows_kept n3.terms n4.terms made.filled.members.items (member_widths (members_of p.program.mirror)) (grows_adds n3 n4 L34) F.filled_.members_) globals locals;
+        module_ = first_module;
+        result = R.has;
+        wide = R.width ∙ is;
+        settled = λ v r. F.filled_.settled v (L34.grown v r);
+        reads = three_reads n1 D.n1 D.n2 D.n3 dA dB dC wa wb wc x.registers x.inputs x.unknown A B C;
+        through = λ v r. ap (trail v) whole ∙ three_through n1 D.n1 D.n2 D.n3 dA dB dC wa wb wc x.registers x.inputs x.unknown A B C v (L.grown v r);
+        first = λ v. first_state p (view_at v);
+        stands = first_stands;
+        runs = λ v r rest go.
+            three_draws n1 D.n1 D.n2 D.n3 dA dB dC wa wb wc x.registers x.inputs x.unknown A B C v (L.grown v r) rest (λ registers inputs unknown c. go (first_state p (settled_view p.module registers inputs unknown)) c);
+      }
 
 pub first_made : (p : Pair) (n0 n1 n2 : Unrolled) (gs ls : List Var) (o : Objects) → gs ≡ p.program.globals → ls ≡ p.program.locals → HasRows n0 n1 gs o.globals.items → HasRows n1 n2 ls o.locals.items → o.members.items ≡ [] → HasFirstObjects p n0 n2 o
 first_made p n0 n1 n2 gs ls o eg el G L none = record {

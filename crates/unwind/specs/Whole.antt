@@ -1,5 +1,5 @@
 -- The parts of a whole list: how it begins, the body of `main`, and what is tested behind it.
-use Rattle.std.specs.Prelude.{◌≡◌, ℕ, ◌+◌, ◌*◌, ◌≤◌, List, [], None, slice_get}
+use Rattle.std.specs.Prelude.{◌≡◌, ℕ, ◌+◌, ◌*◌, ◌≤◌, List, [], slice_get}
 use Rattle.word_eqs.specs.declared.list.Step.{Step}
 use Rattle.word_eqs.specs.Gates.{gate_count}
 use Rattle.word_eqs.specs.Graph.{Graph}
@@ -20,13 +20,7 @@ use Rattle.unwind_state.specs.Unwinding.{Unwinds}
 use Rattle.unwound.specs.Covers.{AreNarrow}
 use Rattle.unwind.specs.Rows.{AreRows}
 
--- a module without signals, which draws nothing as it settles, and a program without a mirror
-pub record IsBare (p : Pair) : Type 0 where
-  pub signals : p.module.signals ≡ []
-  pub sites : p.module.settle_sites ≡ []
-  pub mirror : p.program.mirror ≡ None
-
--- terms of the first elements of all objects were made, where there is no mirror
+-- terms of the first elements of all objects were made, but for the mirror's
 pub record HasFirstObjects (p : Pair) (n0 n1 : Unrolled) (o : Objects) : Type 0 where
   pub adds : Adds n0 n1
   pub globals : AreRows n1.terms p.program.globals o.globals.items

@@ -84,8 +84,8 @@ fn is_within(
 
 /// The list of all runs of a pair within bounds.
 ///
-/// Pairs whose module has signals, and programs with a mirror, aren't unwound yet, nor statements that `unwind_blocks` doesn't
-/// make; these end as want of memory does. So does a list that fails one of the tests behind it.
+/// Statements that `unwind_blocks` doesn't make aren't unwound yet; these end as want of memory does. So does a list that fails
+/// one of the tests behind it.
 pub fn unwind(alloc: Global, pair: &Pair, bounds: &Bounds) -> Result<Unwound, AllocError>
     requires well { IsWellFormed pair.now }
     requires light { weight_of pair.now bounds.now ≤ 16777216 }

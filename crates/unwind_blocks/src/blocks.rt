@@ -14,6 +14,7 @@ ghost use Rattle.unwind_blocks.specs.Loops.{FitsTurn, IsPart, turn_of, loop_in};
 
 use crate::loops::{begun, ended, test};
 use crate::tests_of::tested;
+use frame_statements::{frame_taken, inputs_set};
 use joint_ir::{Group, IntType, SNode, TLoop, TStmt, Way, lookup};
 use sized_terms::SizedTerm;
 use sqlite_items::Boxed;
@@ -24,7 +25,7 @@ use unwind_simple::{Activation, assert, assume, called, give_back, value};
 use unwind_state::{Flow, Guard, State, joined, merged, turned};
 use unwind_stores::{declare, store, update};
 
-/// A statement under a guard, with the guards of the ways on. Those that aren't made yet end as want of memory does.
+/// A statement under a guard, with the guards of the ways on. What isn't made yet of them ends as want of memory does.
 #[cycle(blocks)]
 pub fn stmt(
     alloc: Global,
@@ -91,7 +92,14 @@ pub fn stmt(
             let f = assume(net, at, state, e.get(), guard)?;
             Ok(f)
         }
-        _ => Err(AllocError),
+        SNode::SetInputs => {
+            let f = inputs_set(alloc, net, at, state, guard)?;
+            Ok(f)
+        }
+        SNode::NextFrame(broken) => {
+            let f = frame_taken(alloc, net, at, state, *broken, guard)?;
+            Ok(f)
+        }
     }
 }
 

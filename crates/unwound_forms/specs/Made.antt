@@ -80,8 +80,8 @@ abbrev mutual
   stmt_is_made p (Return init) = return_is_made p init
   stmt_is_made p (Assert e prop) = true
   stmt_is_made p (Assume e) = true
-  stmt_is_made p SetInputs = false
-  stmt_is_made p (NextFrame prop) = false
+  stmt_is_made p SetInputs = true
+  stmt_is_made p (NextFrame prop) = true
 
   -- statements one after another
   pub row_is_made : {m : _} → CProgram → Row_of-TStmt m → Bool

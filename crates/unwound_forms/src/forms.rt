@@ -109,7 +109,7 @@ fn is_stmt_made(program: &CProgram, s: &TStmt) -> bool
         SNode::Loop(one) => is_loop_made(program, one),
         SNode::Switch(_, groups) => are_cases_made(program, groups.as_slice()),
         SNode::Break | SNode::Continue | SNode::Assert(..) | SNode::Assume(_) => true,
-        _ => false,
+        SNode::SetInputs | SNode::NextFrame(_) => true,
     }
 }
 

@@ -4,14 +4,14 @@ use Rattle.std.proofs.lemmas.Grind.{common_steps}
 use Rattle.std.proofs.lemmas.List.{drop_more}
 use Rattle.std.proofs.Math.ListN.{drop_of_length-le}
 use Rattle.joint_ir.specs.declared.expr.TExpr.{TExpr}
-use Rattle.joint_ir.specs.declared.stmt.SNode.{the_lemmas, Block, Store, Update, Call, If, Loop, Switch, Break, Continue, Return, Assert, Assume}
+use Rattle.joint_ir.specs.declared.stmt.SNode.{the_lemmas, Block, Store, Update, Call, If, Loop, Switch, Break, Continue, Return, Assert, Assume, SetInputs, NextFrame}
 use Rattle.joint_ir.specs.declared.stmt.Group.{Group, out-Group}
 use Rattle.joint_ir.specs.declared.stmt.TLoop.{out-TLoop}
 use Rattle.joint_ir.specs.declared.stmt.TStmt.{TStmt}
 use Rattle.joint_ir.specs.declared.way.Way.TheVariants.{Next, Breaking, Continuing}
 use Rattle.joint_ir.specs.Statements.{after, after_loop}
 use Rattle.joint_ir.specs.declared.program.CProgram.{CProgram}
-use Rattle.joint_ir.specs.Steps.{call_effect, return_effect, slot_type, store_effect, update_effect}
+use Rattle.joint_ir.specs.Steps.{call_effect, next_frame, return_effect, set_inputs, slot_type, store_effect, update_effect}
 use Rattle.joint_ir.specs.WellFormed.{Scope, FitsExpr, FitsInit, FitsStmt, declared_behind, in_a_switch}
 use Rattle.joint_lists.specs.Lists.{after_items, after_option, entered_case, FitsOptional}
 use Rattle.joint_lists.proofs.Rows.{after-block, after-if, after-switch}
@@ -267,6 +267,32 @@ stmt-returns-in_ok-f-in-Assume t c =
     let e_is = c.get-in-Assume.ensures in
     done_at at c.args.net.now c.assume.new.net c.args.state.now c.args.state.now c.args.guard c.in_ok-f-in-Assume.f d.locals s (Assume c.in-Assume.e) (assumed_as k c.get-in-Assume.result.now) c.in-Assume.is refl
     (ap (λ (e : TExpr). assumed_as k e) e_is ∙ ap (after k (calls_in at) s.place) (sym c.in-Assume.is)) (c.in_ok-f-in-Assume.ensures d inside (subst (FitsExpr d) (sym e_is) F))
+
+pub stmt-inputs_set-requires : goal.stmt-inputs_set-requires
+stmt-inputs_set-requires t c =
+    record { well = c.requires.well; scope = c.requires.scope; program = c.requires.program; fits = subst (FitsStmt c.requires.scope) c.in-SetInputs.is c.requires.fits; objects = c.requires.objects; result = c.requires.result; guard = c.requires.guard }
+
+pub stmt-returns-in_ok-f-in-SetInputs : goal.stmt-returns-in_ok-f-in-SetInputs
+stmt-returns-in_ok-f-in-SetInputs t c =
+    let at = c.args.at.now in
+    let k = setting_of at in
+    let s = c.args.s.now in
+    λ d inside fits.
+    done_at at c.args.net.now c.inputs_set.new.net c.args.state.now c.inputs_set.new.state c.args.guard c.in_ok-f-in-SetInputs.f d.locals s SetInputs (set_inputs k) c.in-SetInputs.is refl
+    (ap (after k (calls_in at) s.place) (sym c.in-SetInputs.is)) (c.in_ok-f-in-SetInputs.ensures d inside)
+
+pub stmt-frame_taken-requires : goal.stmt-frame_taken-requires
+stmt-frame_taken-requires t c =
+    record { well = c.requires.well; scope = c.requires.scope; program = c.requires.program; fits = subst (FitsStmt c.requires.scope) c.in-NextFrame.is c.requires.fits; objects = c.requires.objects; result = c.requires.result; guard = c.requires.guard }
+
+pub stmt-returns-in_ok-f-in-NextFrame : goal.stmt-returns-in_ok-f-in-NextFrame
+stmt-returns-in_ok-f-in-NextFrame t c =
+    let at = c.args.at.now in
+    let k = setting_of at in
+    let s = c.args.s.now in
+    λ d inside fits.
+    done_at at c.args.net.now c.frame_taken.new.net c.args.state.now c.frame_taken.new.state c.args.guard c.in_ok-f-in-NextFrame.f d.locals s (NextFrame c.in-NextFrame.broken) (next_frame k c.in-NextFrame.broken) c.in-NextFrame.is refl
+    (ap (after k (calls_in at) s.place) (sym c.in-NextFrame.is)) (c.in_ok-f-in-NextFrame.ensures d inside)
 
 pub stmt-repeat-requires : goal.stmt-repeat-requires
 stmt-repeat-requires t c =
