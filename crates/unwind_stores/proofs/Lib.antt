@@ -6,3 +6,5 @@ pub mod Declared
 pub mod Bounds
 pub mod Storing
 pub mod Elementwise
+pub mod Reading
+pub mod ElementUpdates

@@ -38,11 +38,11 @@ use Rattle.unwind_stores.proofs.Answered.{grows_then, grows_adds, asked}
 use Rattle.unwind_stores.proofs.Rows.{element_found, declared_in, some_terms}
 
 -- with an answer's number, of which something is made
-value_then : (an : Answer) (f : ℤ → ℤ) (c : List ℕ) (go : ℤ → Effect) → with_value (and_then an (λ n. Value (f n))) c go ≡ with_value an c (λ n. go (f n))
+pub value_then : (an : Answer) (f : ℤ → ℤ) (c : List ℕ) (go : ℤ → Effect) → with_value (and_then an (λ n. Value (f n))) c go ≡ with_value an c (λ n. go (f n))
 value_then (Value n) f c go = refl
 value_then (Fault p) f c go = refl
 
-same_go : (an : Answer) (c : List ℕ) (go go' : ℤ → Effect) → ((n : ℤ) → go n ≡ go' n) → with_value an c go ≡ with_value an c go'
+pub same_go : (an : Answer) (c : List ℕ) (go go' : ℤ → Effect) → ((n : ℤ) → go n ≡ go' n) → with_value an c go ≡ with_value an c go'
 same_go (Value n) c go go' e = e n
 same_go (Fault p) c go go' e = refl
 

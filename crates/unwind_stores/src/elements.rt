@@ -1,12 +1,13 @@
-// Elements of arrays whose index is a term: the test of bounds, and a write.
+// Elements of arrays whose index is a term: the test of bounds, a read, and a write.
 
-ghost use Rattle.std.specs.Prelude.{◌≡◌, ◌<◌, ◌≤◌, ◌^◌, false, length, min, IfOk, OnOk};
+ghost use Rattle.std.specs.Prelude.{◌≡◌, ◌<◌, ◌≤◌, ◌^◌, false, length, min, take, IfOk, OnOk};
 ghost use Rattle.joint_ir.specs.WellFormed.{is_bound};
 ghost use Rattle.sized_terms.specs.Sized.{Has};
+ghost use Rattle.element_terms.specs.Elements.{AreElements};
 ghost use Rattle.unrolled.specs.Elements.{terms_of};
 ghost use Rattle.unwind_state.specs.Guards.{HasGuard, bit_at};
 ghost use Rattle.unwind_state.specs.Writing.{IsPutAt};
-ghost use Rattle.unwind_stores.specs.Elements.{IsBounded, MayPutAt, IsPlacePut};
+ghost use Rattle.unwind_stores.specs.Elements.{IsBounded, IsReadAt, MayPutAt, IsPlacePut};
 
 use crate::operators::test;
 use bits_core::Op2;
@@ -17,6 +18,10 @@ use sized_terms::SizedTerm;
 use std::alloc::AllocError;
 use unrolled::{Objects, Unrolled, room};
 use unwind_state::{Guard, and_bit, put};
+use word_eqs::TermId;
+
+/// The most elements that are read through an index: each makes three terms or fewer.
+const MOST: usize = 268435456;
 
 /// The check that an index is within an array of so many elements (C99 6.5.6 paragraph 8), where a property stands for it.
 pub fn bounded(
@@ -38,6 +43,42 @@ pub fn bounded(
     let within = element_terms::within(&mut net.terms, index, from.signed, count)?;
     test(net, guard, check_for(bounds, within))?;
     Ok(())
+}
+
+/// The elements that an index of so many bits can name.
+fn named(elements: &[TermId], width: u8) -> &[TermId]
+    requires { length elements.now ≤ 268435456 }
+    ensures { result.now ≡ take (2 ^ width) elements.now }
+{
+    if width < 32 {
+        let most = 1usize << (width as u32);
+        if most < elements.len() {
+            return &elements[..most];
+        }
+    }
+    elements
+}
+
+/// The term of the element at an index that is within the array (C99 6.5.2.1).
+pub fn read_at(
+    net: &mut Unrolled,
+    elements: &[TermId],
+    index: SizedTerm,
+    width: u8,
+) -> Result<SizedTerm, AllocError>
+    requires has { Has net.old.terms index }
+    requires some { 0 < length elements.now }
+    requires elements { AreElements net.old.terms elements.now width }
+    ensures { IfOk result (λ t. IsReadAt net.old net.new elements.now width index t) }
+{
+    // The terms are a graph.
+    let _ = net.terms.len();
+    if elements.len() > MOST {
+        return Err(AllocError);
+    }
+    room(net, 3 * (elements.len() as u32))?;
+    let t = element_terms::read(&mut net.terms, index, named(elements, index.width), width)?;
+    Ok(t)
 }
 
 /// How many of so many elements an index of so many bits can name.

@@ -10,7 +10,6 @@ use Rattle.joint_ir.specs.declared.stmt.TInit.{TInit}
 use Rattle.joint_ir.specs.declared.stmt.TInit.TheVariants.{Free, Values, Called}
 use Rattle.joint_ir.specs.declared.stmt.TLoop.{TLoop, TLoop'}
 use Rattle.joint_ir.specs.declared.stmt.TStmt.{TStmt}
-use Rattle.joint_ir.specs.declared.stmt.TTarget.{TTarget}
 use Rattle.joint_ir.specs.declared.expr.TExpr.{TExpr}
 use Rattle.joint_ir.specs.declared.expr.Slot.TheVariants.{Local}
 use Rattle.joint_ir.specs.Weights.{slot_length}
@@ -56,21 +55,13 @@ array_is_made (Called call) = false
 abbrev pub declare_is_made : CProgram → ℕ → TInit → Bool
 declare_is_made p x init = if nat_eq (slot_length p (Local x)) 0 then init_is_made p init else array_is_made init
 
--- an update of an object that is no array
-abbrev pub is_plain : Option TExpr → Bool
-is_plain None = true
-is_plain (Some e) = false
-
-abbrev pub update_is_made : TTarget → Bool
-update_is_made target = is_plain target.index
-
 -- a statement, with all that stands in it
 abbrev mutual
   pub stmt_is_made : CProgram → SNode → Bool
   stmt_is_made p (Block' _ row) = row_is_made p row
   stmt_is_made p (Declare x init) = declare_is_made p x init
   stmt_is_made p (Store target init) = init_is_made p init
-  stmt_is_made p (Update target u) = update_is_made target
+  stmt_is_made p (Update target u) = true
   stmt_is_made p (Call call) = call_is_made p call
   stmt_is_made p (If' e _ (more_of-TStmt q a _) other) = stmt_is_made p a && other_is_made p other
   stmt_is_made p (Loop loop) = loop_is_made p loop

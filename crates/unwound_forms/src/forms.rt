@@ -3,11 +3,9 @@
 ghost use Rattle.std.specs.Prelude.{◌≡◌, nat_eq};
 ghost use Rattle.joint_ir.specs.declared.expr.Slot.TheVariants.{Local};
 ghost use Rattle.joint_ir.specs.Weights.{slot_length};
-ghost use Rattle.unwound_forms.specs.Made.{stmt_is_made, items_are_made, cases_are_made, option_is_made, loop_is_made, opens, call_is_made, init_is_made, return_is_made, array_is_made, declare_is_made, update_is_made, function_is_made, program_is_made};
+ghost use Rattle.unwound_forms.specs.Made.{stmt_is_made, items_are_made, cases_are_made, option_is_made, loop_is_made, opens, call_is_made, init_is_made, return_is_made, array_is_made, declare_is_made, function_is_made, program_is_made};
 
-use joint_ir::{
-    CProgram, Function, Group, SNode, Slot, TCall, TInit, TLoop, TStmt, TTarget, lookup,
-};
+use joint_ir::{CProgram, Function, Group, SNode, Slot, TCall, TInit, TLoop, TStmt, lookup};
 use sqlite_items::Boxed;
 
 /// Whether a function has no body and gives a result.
@@ -82,16 +80,6 @@ fn is_declare_made(program: &CProgram, local: u32, init: &TInit) -> bool
     }
 }
 
-/// Whether an update is of an object that is no array.
-fn is_update_made(target: &TTarget) -> bool
-    ensures { result ≡ update_is_made target.now }
-{
-    match &target.index {
-        None => true,
-        Some(_) => false,
-    }
-}
-
 /// Whether a statement, with all that stands in it, is of forms that are unwound.
 #[cycle(forms)]
 fn is_stmt_made(program: &CProgram, s: &TStmt) -> bool
@@ -101,14 +89,14 @@ fn is_stmt_made(program: &CProgram, s: &TStmt) -> bool
         SNode::Block(items) => are_items_made(program, items.as_slice()),
         SNode::Declare(local, init) => is_declare_made(program, *local, init),
         SNode::Store(_, init) => is_init_made(program, init),
-        SNode::Update(target, _) => is_update_made(target),
         SNode::Call(call) => is_call_made(program, call),
         SNode::Return(init) => is_return_made(program, init),
         SNode::If(_, body, other) => is_stmt_made(program, body.get())
             && is_option_made(program, other),
         SNode::Loop(one) => is_loop_made(program, one),
         SNode::Switch(_, groups) => are_cases_made(program, groups.as_slice()),
-        SNode::Break | SNode::Continue | SNode::Assert(..) | SNode::Assume(_) => true,
+        SNode::Update(..) | SNode::Break | SNode::Continue | SNode::Assert(..) | SNode::Assume(_) =>
+            true,
         SNode::SetInputs | SNode::NextFrame(_) => true,
     }
 }
