@@ -243,7 +243,7 @@ def main():
     for k, call in enumerate(CALLS):
         n = called(call)
         rows.append(f"  {{ long n = {call}; assert(n == {n}); }}")
-    print("//// no offence: expressions, updates and small programs, with the values that gcc gives")
+    print("//// run: expressions, updates and small programs, with the values that gcc gives; the last assertion is false")
     print(HEAD.rstrip())
     print(PROGRAMS.strip())
     print("int main(void) {")

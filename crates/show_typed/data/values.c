@@ -1,4 +1,4 @@
-//// no offence: expressions, updates and small programs, with the values that gcc gives
+//// run: expressions, updates and small programs, with the values that gcc gives; the last assertion is false
 #include <assert.h>
 #include <stdbool.h>
 #include <stdint.h>

@@ -1,64 +1,39 @@
 //! Prints what typing gives for worked texts: `show_typed FILE..`. A file holds texts of C, each behind a line `//// NAME`,
-//! without the end of its last line. Of a text whose name begins with `program` the whole typed program is printed. What
-//! has to be printed was worked out by hand from the rules.
+//! without the end of its last line. Of a text whose name begins with `program` the whole typed program is printed; with
+//! `mirror`, the links of its mirror to a module made by hand; with `run`, how its run beside a module that has nothing ends.
+//! What has to be printed was worked out by hand from the rules, or is what gcc gives.
 #![tactic(auto)]
 
 ghost use Rattle.std.specs.Prelude.{◌^◌, ◌<◌, length};
 
 mod expressions;
+mod links;
 mod program;
+mod runs;
 mod statements;
 
-use c_parse::{ParseEnd, parse_c};
-use c_tree::CTree;
-use c_types::{TypeEnd, typed};
 use io_edge::{RealFiles, read_all};
-use joint_ir::CProgram;
+use links::print_mirror;
 use program::print_program;
+use runs::print_run;
 use src_text::Refusal;
-use std::alloc::{AllocError, Global};
 use std::{env, io, str};
+use typed_texts::{TypedText, typed_text};
 
 /// What comes before the name of a text.
 const MARK: &str = "//// ";
 
-/// What typing gives for a text.
-#[derive(Drop)]
-enum Answer {
-    Typed(CProgram),
-    Refused(Refusal),
-    /// A text of 2^30 bytes or more isn't read.
-    TooLong,
-}
-
-fn typed_tree(alloc: Global, tree: &CTree) -> Result<Answer, AllocError> {
-    match typed(alloc, tree) {
-        Ok(program) => Ok(Answer::Typed(program)),
-        Err(TypeEnd::Refused(refusal)) => Ok(Answer::Refused(refusal)),
-        Err(TypeEnd::Memory) => Err(AllocError),
-    }
-}
-
-fn typed_text(alloc: Global, text: &[u8]) -> Result<Answer, AllocError> {
-    if text.len() >= 1 << 30 {
-        return Ok(Answer::TooLong);
-    }
-    match parse_c(alloc, text) {
-        Ok(tree) => typed_tree(alloc, &tree),
-        Err(ParseEnd::Refused(refusal)) => Ok(Answer::Refused(refusal)),
-        Err(ParseEnd::Memory) => Err(AllocError),
-    }
-}
-
 fn print_text<R: Print + AllocGlobal>(rt: &R, name: &str, text: &str) -> io::Result<()> {
     println!(rt; "{name}")?;
     match typed_text(rt.alloc(), text.as_bytes())? {
-        Answer::Refused(Refusal { place, kind, .. }) => {
+        TypedText::Refused(Refusal { place, kind, .. }) => {
             println!(rt; "  {}:{} {}", place.line, place.column, kind.text())
         }
-        Answer::Typed(program) if name.starts_with("program") => print_program(rt, &program),
-        Answer::Typed(_) => println!(rt; "  typed"),
-        Answer::TooLong => println!(rt; "  too long"),
+        TypedText::Typed(program) if name.starts_with("program") => print_program(rt, &program),
+        TypedText::Typed(program) if name.starts_with("mirror") => print_mirror(rt, &program),
+        TypedText::Typed(program) if name.starts_with("run") => print_run(rt, program),
+        TypedText::Typed(_) => println!(rt; "  typed"),
+        TypedText::TooLong => println!(rt; "  too long"),
     }
 }
 

@@ -1,0 +1,4 @@
+int main(void) {
+  unsigned char c;
+  assert(c != 0);
+}
