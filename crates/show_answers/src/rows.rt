@@ -1,7 +1,7 @@
 //! The words that are answered.
 
 /// Words, parted by one blank.
-pub const PLAIN: [&str; 54] = [
+pub const PLAIN: [&str; 61] = [
     "",
     "c.c counter.v d.v",
     "--bound 10001 two.c counter.v",
@@ -56,6 +56,13 @@ pub const PLAIN: [&str; 54] = [
     "least.c m.v",
     "--budget 1 times.c m.v",
     "small.c m.v",
+    "plus.c m.v",
+    "past.c m.v",
+    "case.c m.v",
+    "--bound 1 edges.c m.v",
+    "--bound 2 edges.c m.v",
+    "--bound 1 --check-bound edges.c m.v",
+    "inputs.c m.v",
 ];
 
 /// Words, and the call of the files or of the output that fails, by its number, or 0.
