@@ -1,0 +1,3 @@
+mod Playing
+pub mod Winning
+pub mod Counts
