@@ -37,7 +37,7 @@ named_part shapes g bits low high end m n from e l f c h =
     (refl, λ k. h k ∙ ap (λ x. in_span bits from x k) c ∙ spanned shapes g bits low (high - end + 1) k (pos end) from e l f)
 
 -- a constant index has one value
-index_blank : (shapes : ℕ → Shape) (i : FlatExpr) → own_fixed (meant shapes i) ≡ true → index (flat_language shapes) i blank no_sites 0 ≡ index_at shapes i
+pub index_blank : (shapes : ℕ → Shape) (i : FlatExpr) → own_fixed (meant shapes i) ≡ true → index (flat_language shapes) i blank no_sites 0 ≡ index_at shapes i
 index_blank shapes i f = index_steady (meant shapes i) (steady shapes i) f (world shapes blank no_sites) values.blank 0 0
 
 pub less_none : (z : ℤ) → z -ℤ pos 0 ≡ z

@@ -92,3 +92,17 @@ abs_is (negsuc n) h = absurd (omega (arith, ints, h))
 
 pub below_is : (z : ℤ) (p bits : ℕ) → z ≡ pos p → z <ℤ pos bits → p < bits
 below_is z p bits e h = omega (arith, ints, e, h)
+
+-- places of one signal are none of another's
+place_other : (s : Shape) (g h k : ℕ) (z : ℤ) (rest : List (Option Spot)) → eqb g h ≡ false → is_among rest (spot h 0 k) ≡ false → is_among (place_at s g z ∷ rest) (spot h 0 k) ≡ false
+place_other s g h k (pos p) rest e r =
+    let P : Bool → Type 0 = λ b. is_among ((if b then Some (spot g 0 p) else None) ∷ rest) (spot h 0 k) ≡ false in
+    elim (nat_lt p s.bits) as P [
+      | true ↦ ap (λ t. (t && (eqb 0 0 && eqb p k)) || is_among rest (spot h 0 k)) e ∙ r
+      | false ↦ r
+    ]
+place_other s g h k (negsuc p) rest e r = r
+
+pub range_other : (s : Shape) (g h k : ℕ) (from : ℤ) (n : ℕ) → eqb g h ≡ false → is_among (range_at s g from n) (spot h 0 k) ≡ false
+range_other s g h k from zero e = refl
+range_other s g h k from (suc n) e = place_other s g h k (from +ℤ pos n) (range_at s g from n) e (range_other s g h k from n e)

@@ -7,4 +7,4 @@ mod index;
 mod selections;
 
 pub use index::{Index, constant_index};
-pub use selections::{Named, named_bits};
+pub use selections::{Named, indexed, named_bits, part, span};

@@ -20,7 +20,7 @@ pub enum Named {
 }
 
 /// Which bits of a vector n bits from a place on are.
-fn span(bits: u8, from: i64, n: u8) -> u64
+pub fn span(bits: u8, from: i64, n: u8) -> u64
     requires bits { bits ≤ 64 }
     requires low { negsuc (2 ^ 62 + 2 ^ 40) ≤ℤ from }
     requires high { from ≤ℤ pos (2 ^ 62) }
@@ -38,8 +38,8 @@ fn span(bits: u8, from: i64, n: u8) -> u64
     mask
 }
 
-/// n bits from an index on, or some places below it.
-fn indexed(bits: u8, low: u32, index: Index, below: u8, n: u8) -> Named
+/// n bits from an index on, or from some places below it on (5.2.1).
+pub fn indexed(bits: u8, low: u32, index: Index, below: u8, n: u8) -> Named
     requires bits { bits ≤ 64 }
     requires close { IsCloseIndex index }
     requires below { below ≤ 64 }
@@ -56,7 +56,8 @@ fn indexed(bits: u8, low: u32, index: Index, below: u8, n: u8) -> Named
     }
 }
 
-fn part(bits: u8, low: u32, high: u32, end: u32) -> u64
+/// The bits of a part of a vector, from its high end down to its low end; `low` is the low end of the vector.
+pub fn part(bits: u8, low: u32, high: u32, end: u32) -> u64
     requires bits { bits ≤ 64 }
     requires end { low ≤ end }
     requires order { end ≤ high }

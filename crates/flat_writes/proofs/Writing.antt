@@ -1,14 +1,13 @@
 -- What parts of targets assign.
-use Rattle.std.proofs.Common.{◌≡◌, ℕ, zero, suc, ◌+◌, ◌-◌, List, [], ◌∷◌, ◌++◌, Bool, true, false, eqb, Option, Some, None, refl, sym, ap, ◌∙◌, inl, inr, ℤ, pos, negsuc}
-use Rattle.std.specs.Prelude.{if◌then◌else◌, ◌&&◌, ◌||◌, nat_lt, max, slice_get, ◌-ℤ◌, ◌+ℤ◌}
+use Rattle.std.proofs.Common.{◌≡◌, ℕ, zero, suc, ◌+◌, ◌-◌, List, [], ◌∷◌, ◌++◌, Bool, true, false, eqb, Some, refl, sym, ap, ◌∙◌, inl, inr, pos}
+use Rattle.std.specs.Prelude.{if◌then◌else◌, ◌&&◌, ◌||◌, nat_lt, max, slice_get, ◌-ℤ◌}
 use Rattle.std.proofs.lemmas.Bool.Decides.{eqb_tells}
 use Rattle.std.proofs.lemmas.List.Folds.{list_any-append}
 use Rattle.bit_sets.specs.declared.Bits.{Bits}
 use Rattle.bit_sets.specs.Sets.{is_set, is_in, has}
 use Rattle.v_views.specs.declared.Selection.{Selection}
 use Rattle.v_views.specs.declared.Selection.TheVariants as selection
-use Rattle.v_views.specs.Spots as spots
-use Rattle.v_views.specs.Spots.{Spot, spot, is_among, place_at, range_at, bits_at, word_at, is_bit_of}
+use Rattle.v_views.specs.Spots.{spot, is_among, range_at, bits_at, word_at, is_bit_of}
 use Rattle.v_views.specs.Language.{index}
 use Rattle.v_views.specs.Names.{blank, no_sites, is_sure, is_selected}
 use Rattle.flat_tree.specs.declared.expr.FlatExpr.{FlatExpr}
@@ -17,22 +16,10 @@ use Rattle.flat_tree.specs.Values.{Shape}
 use Rattle.flat_language.specs.Reads.{shape_of}
 use Rattle.flat_language.proofs.Local.{flat_language}
 use Rattle.flat_values.specs.Fits.{shapes_of, shape_or}
+use Rattle.flat_bits.proofs.Spans.{range_other}
 use Rattle.flat_writes.specs.declared.masks.Extent.{Extent}
 use Rattle.flat_writes.specs.declared.masks.Extent.TheVariants.{Certain, Any}
 use Rattle.flat_writes.specs.Writes.{part_bits}
-
-place_other : (s : spots.Shape) (g h k : ℕ) (z : ℤ) (rest : List (Option Spot)) → eqb g h ≡ false → is_among rest (spot h 0 k) ≡ false → is_among (place_at s g z ∷ rest) (spot h 0 k) ≡ false
-place_other s g h k (pos p) rest e r =
-    let P : Bool → Type 0 = λ b. is_among ((if b then Some (spot g 0 p) else None) ∷ rest) (spot h 0 k) ≡ false in
-    elim (nat_lt p s.bits) as P [
-      | true ↦ ap (λ t. (t && (eqb 0 0 && eqb p k)) || is_among rest (spot h 0 k)) e ∙ r
-      | false ↦ r
-    ]
-place_other s g h k (negsuc p) rest e r = r
-
-range_other : (s : spots.Shape) (g h k : ℕ) (from : ℤ) (n : ℕ) → eqb g h ≡ false → is_among (range_at s g from n) (spot h 0 k) ≡ false
-range_other s g h k from zero e = refl
-range_other s g h k from (suc n) e = place_other s g h k (from +ℤ pos n) (range_at s g from n) e (range_other s g h k from n e)
 
 bits_other : (g h k n : ℕ) → eqb g h ≡ false → is_among (bits_at g 0 n) (spot h 0 k) ≡ false
 bits_other g h k zero e = refl
