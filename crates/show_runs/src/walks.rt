@@ -17,7 +17,7 @@ pub struct Walk {
 }
 
 /// What one step does.
-enum Done {
+enum StepEnd {
     Passes,
     Reads(u64),
     Ends(Option<u32>),
@@ -35,38 +35,43 @@ fn is_zero(words: &Words, term: TermId) -> bool {
     value_at(words, term.0) == 0
 }
 
-fn done(step: Step, env: &Words, words: &Words) -> Done {
+fn end_of_step(step: Step, env: &Words, words: &Words) -> StepEnd {
     if is_zero(words, step.guard) {
-        return Done::Passes;
+        return StepEnd::Passes;
     }
     match step.act {
-        Act::Free(x) => Done::Reads((value_at(env, x.0) % (1 << 64)) as u64),
-        Act::Set(..) => Done::Ends(None),
+        Act::Free(x) => StepEnd::Reads((value_at(env, x.0) % (1 << 64)) as u64),
+        Act::Set(..) => StepEnd::Ends(None),
         Act::Cut(t) => {
             if is_zero(words, t) {
-                Done::Ends(None)
+                StepEnd::Ends(None)
             } else {
-                Done::Passes
+                StepEnd::Passes
             }
         }
         Act::Prop(p, t) => {
             if is_zero(words, t) {
-                Done::Ends(Some(p))
+                StepEnd::Ends(Some(p))
             } else {
-                Done::Passes
+                StepEnd::Passes
             }
         }
     }
 }
 
 /// The walk over a list, by the words of its variables and of its terms.
-fn walk(alloc: Global, list: &GuardedList, env: &Words, words: &Words) -> Result<Walk, AllocError> {
+fn walk_over(
+    alloc: Global,
+    list: &GuardedList,
+    env: &Words,
+    words: &Words,
+) -> Result<Walk, AllocError> {
     let mut reads = Choices::new(alloc);
     for at in 0..list.len() {
-        match done(list.get(at), env, words) {
-            Done::Passes => {}
-            Done::Reads(choice) => reads.push(choice)?,
-            Done::Ends(broken) => return Ok(Walk { reads, broken }),
+        match end_of_step(list.get(at), env, words) {
+            StepEnd::Passes => {}
+            StepEnd::Reads(choice) => reads.push(choice)?,
+            StepEnd::Ends(broken) => return Ok(Walk { reads, broken }),
         }
     }
     Ok(Walk {
@@ -92,5 +97,5 @@ pub fn walk_on(alloc: Global, made: &Unwound, env: &Words) -> Result<Walk, Alloc
 {
     let mut words = blank(alloc, made.terms.len())?;
     made.terms.eval_into(env, &mut words);
-    walk(alloc, &made.list, env, &words)
+    walk_over(alloc, &made.list, env, &words)
 }
