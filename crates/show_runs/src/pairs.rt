@@ -103,12 +103,12 @@ fn print_rounds<R: Print + AllocGlobal>(
     let mut random = Pcg32::new(2005, 1364);
     let properties = pair.program.props.as_slice();
     let mut ends = Ends::new(rt.alloc(), properties.len())?;
-    let mut agree = 0;
+    let mut agree = 0u32;
     for _ in 0..ROUNDS {
         let env = random_words(rt.alloc(), &made.terms, &mut random)?;
         let walk = walk_on(rt.alloc(), made, &env)?;
         if let Some(outcome) = agreed(rt.alloc(), pair, bounds, walk)? {
-            agree += 1;
+            agree = agree.saturating_add(1);
             ends.note(outcome);
         }
     }
