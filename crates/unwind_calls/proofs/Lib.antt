@@ -1,0 +1,9 @@
+pub mod Wider
+pub mod Backs
+pub mod Called
+pub mod Params
+pub mod Closing
+pub mod Listing
+pub mod Declared
+pub mod Entering
+pub mod Joining

@@ -1,0 +1,12 @@
+//! Calls of functions with bodies, unwound under a guard: what stands before a body and behind it.
+#![tactic(auto)]
+
+mod brace;
+mod parameters;
+mod rows;
+mod values;
+
+pub use brace::close;
+pub use parameters::set_params;
+pub use rows::{kept, put_back};
+pub use values::arguments;
