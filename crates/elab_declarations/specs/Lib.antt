@@ -1,2 +1,4 @@
+pub mod Values
+pub mod Overrides
 pub mod Shapes
 pub mod Parameters

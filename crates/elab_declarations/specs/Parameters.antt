@@ -1,40 +1,24 @@
 -- Parameters (IEEE 1364-2005, 4.10 and 12.2).
-use Rattle.std.specs.Prelude.{ℕ, List, [], ◌∷◌, Option, Some, None, Bool, true, false}
-use Rattle.bits_core.specs.Word.{Word, resized_word}
+use Rattle.std.specs.Prelude.{List, [], ◌∷◌, Option, Some, None, Bool}
+use Rattle.bits_core.specs.Word.{resized_word}
 use Rattle.v_tree.specs.declared.expr.Expr.{Expr}
 use Rattle.v_tree.specs.declared.item.ParameterAssignment.{ParameterAssignment}
 use Rattle.v_tree.specs.declared.item.ParameterDeclaration.{ParameterDeclaration}
 use Rattle.v_tree.specs.declared.item.ParameterRange.{ParameterRange}
-use Rattle.name_table.specs.Tables.{find_in}
 use Rattle.elab_names.specs.declared.constant.Constant.{Constant}
-use Rattle.elab_names.specs.declared.constant.Standing.{Standing}
-use Rattle.elab_names.specs.declared.constant.Worth.{Worth}
-use Rattle.elab_names.specs.declared.constant.Worth.TheVariants.{Value, Open, NotConstant}
 use Rattle.elab_names.specs.declared.names.Entry.TheVariants.{Parameter}
 use Rattle.elab_names.specs.declared.names.ParameterEntry.{ParameterEntry}
 use Rattle.elab_names.specs.declared.names.Shape.{Shape}
 use Rattle.elab_names.specs.Names.{Scope, put}
-use Rattle.elab_names.specs.Measured.{constant_of}
-use Rattle.elab_declarations.specs.declared.parameters.Given.{Given}
-use Rattle.elab_declarations.specs.declared.parameters.Given.TheVariants as given
+use Rattle.elab_declarations.specs.declared.overrides.Given.{Given}
+use Rattle.elab_declarations.specs.declared.overrides.Given.TheVariants as given
 use Rattle.elab_declarations.specs.declared.parameters.ParameterForm.{ParameterForm}
 use Rattle.elab_declarations.specs.declared.parameters.ParameterForm.TheVariants as form
+use Rattle.elab_declarations.specs.declared.overrides.Overrides.{Overrides}
+use Rattle.elab_declarations.specs.declared.overrides.Overrides.TheVariants as over
 use Rattle.elab_declarations.specs.Shapes.{IsShape, range_shape}
-
--- a constant, if its value and its sign are known
-abbrev pub constant_from : Option Bool → Worth → Option Constant
-constant_from None w = None
-constant_from (Some signed) (Value w) = Some (record { word = w; signed = signed })
-constant_from (Some signed) Open = None
-constant_from (Some signed) NotConstant = None
-
--- the constant that a part is
-abbrev pub standing_constant : Standing → Option Constant
-standing_constant s = constant_from s.signed s.worth
-
--- the constant that an expression is by itself, with its length and its sign
-abbrev pub given_constant : Scope → Expr → Option Constant
-given_constant names e = standing_constant (constant_of names [] e)
+use Rattle.elab_declarations.specs.Values.{given_constant}
+use Rattle.elab_declarations.specs.Overrides.{given_for}
 
 -- a constant that is converted to a range: extended by its own sign, or cut on the left; with a sign only where `signed` says
 -- so (IEEE 1364-2005, 4.10.1)
@@ -72,20 +56,15 @@ value_given names (given.Instead c) e = c
 abbrev pub with_parameter : ParameterForm → Given → ParameterAssignment → Scope → Scope
 with_parameter f g p names = put p.name.name (Parameter (parameter_of f (value_given names g p.value))) names
 
--- what an instance gives for a parameter, if it gives something
-abbrev pub given_or_own : Option (Option Constant) → Given
-given_or_own None = given.Own
-given_or_own (Some c) = given.Instead c
-
 -- the parameters of a declaration, one after another; each may use those before it
-abbrev pub with_parameters : List (List ℕ × Option Constant) → ParameterForm → List ParameterAssignment → Scope → Scope
+abbrev pub with_parameters : Overrides → ParameterForm → List ParameterAssignment → Scope → Scope
 with_parameters overrides f [] names = names
-with_parameters overrides f (p ∷ ps) names = with_parameters overrides f ps (with_parameter f (given_or_own (find_in overrides p.name.name)) p names)
+with_parameters overrides f (p ∷ ps) names = with_parameters overrides f ps (with_parameter f (given_for overrides p.name.name) p names)
 
--- a declaration `parameter ..;`, where the instance gives these values, by name
-abbrev pub parameters_declared : List (List ℕ × Option Constant) → ParameterDeclaration → Scope → Scope
+-- a declaration `parameter ..;`, where the instance gives these values
+abbrev pub parameters_declared : Overrides → ParameterDeclaration → Scope → Scope
 parameters_declared overrides d names = with_parameters overrides (form_of names d.range) d.parameters names
 
 -- a declaration `localparam ..;`: no instance gives its values (IEEE 1364-2005, 4.10.2)
 abbrev pub localparams_declared : ParameterDeclaration → Scope → Scope
-localparams_declared d names = parameters_declared [] d names
+localparams_declared d names = parameters_declared over.Absent d names

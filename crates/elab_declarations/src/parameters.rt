@@ -4,14 +4,14 @@ ghost use Rattle.std.specs.Prelude.{◌≡◌, IfOk, OnOk, IfSome};
 ghost use Rattle.elab_declarations.specs.Shapes.{IsShape};
 ghost use Rattle.std.specs.Prelude.{Some};
 ghost use Rattle.elab_declarations.specs.declared.parameters.ParameterForm.TheVariants.{Ranged};
-ghost use Rattle.elab_declarations.specs.Parameters.{constant_from as constant_from_of, standing_constant as standing_constant_of, given_constant as given_constant_of, converted as converted_of, unconverted as unconverted_of, parameter_of as parameter_of_of, form_of as form_of_of, IsForm, value_given as value_given_of, with_parameter, given_or_own as given_or_own_of, with_parameters, parameters_declared, localparams_declared};
+ghost use Rattle.elab_declarations.specs.Parameters.{converted as converted_of, unconverted as unconverted_of, parameter_of as parameter_of_of, form_of as form_of_of, IsForm, value_given as value_given_of, with_parameter, with_parameters, parameters_declared, localparams_declared};
 
+use crate::overrides::{Given, Overrides, given_for};
 use crate::shapes::range_shape;
-use elab_names::constant::{Constant, Standing, Worth};
-use elab_names::measure::constant_of;
+use crate::values::given_constant;
+use elab_names::constant::Constant;
 use elab_names::names::{Entry, ParameterEntry, Shape};
 use elab_names::scope::Names;
-use name_table::Table;
 use std::alloc::{AllocError, Global};
 use v_tree::{Expr, ParameterAssignment, ParameterDeclaration, ParameterRange};
 
@@ -22,46 +22,6 @@ pub enum ParameterForm {
     Plain,
     /// Whether `signed` stands there, and the shape of the range where no offence leaves it open.
     Ranged(bool, Option<Shape>),
-}
-
-/// What an instance gives for a parameter.
-#[derive(Clone, Copy, Debug)]
-pub enum Given {
-    /// Nothing: its own value holds.
-    Own,
-    /// This, where no offence leaves it open.
-    Instead(Option<Constant>),
-}
-
-fn constant_from(signed: Option<bool>, worth: Worth) -> Option<Constant>
-    ensures { result ≡ constant_from_of signed worth }
-{
-    match signed {
-        None => None,
-        Some(signed) => match worth {
-            Worth::Value(word) => Some(Constant { word, signed }),
-            Worth::Open => None,
-            Worth::NotConstant => None,
-        },
-    }
-}
-
-fn standing_constant(s: Standing) -> Option<Constant>
-    ensures { result ≡ standing_constant_of s }
-{
-    constant_from(s.signed, s.worth)
-}
-
-/// The constant that an expression is by itself: its value, its length and its sign; None where an offence leaves it open.
-pub fn given_constant(
-    alloc: Global,
-    names: &Names,
-    e: &Expr,
-) -> Result<Option<Constant>, AllocError>
-    ensures { IfOk result (λ c. c ≡ given_constant_of names.now e.now) }
-{
-    let s = constant_of(alloc, names, &[], e)?;
-    Ok(standing_constant(s))
 }
 
 fn converted(signed: bool, s: Shape, c: Constant) -> ParameterEntry
@@ -150,19 +110,10 @@ fn declare_parameter(
     Ok(())
 }
 
-fn given_or_own(found: Option<Option<Constant>>) -> Given
-    ensures { result ≡ given_or_own_of found }
-{
-    match found {
-        None => Given::Own,
-        Some(c) => Given::Instead(c),
-    }
-}
-
 fn declare_each(
     alloc: Global,
     names: &mut Names,
-    overrides: &Table<Option<Constant>>,
+    overrides: &Overrides,
     form: ParameterForm,
     parameters: &[ParameterAssignment],
 ) -> Result<(), AllocError>
@@ -170,18 +121,18 @@ fn declare_each(
     ensures { OnOk result (names.new ≡ with_parameters overrides.now form parameters.now names.old) }
 {
     for p in parameters {
-        let given = given_or_own(overrides.find(&p.name.name));
+        let given = given_for(overrides, &p.name.name);
         declare_parameter(alloc, names, form, given, p)?;
     }
     Ok(())
 }
 
-/// The parameters of `parameter ..;` are declared. The instance gives these values for those of its names; what another
-/// offence leaves open is None (12.2). On want of memory the names are as some of the steps before left them.
+/// The parameters of `parameter ..;` are declared. A value that the instance gives stands in place of a parameter's own
+/// (12.2). On want of memory the names are as some of the steps before left them.
 pub fn declare_parameters(
     alloc: Global,
     names: &mut Names,
-    overrides: &Table<Option<Constant>>,
+    overrides: &Overrides,
     d: &ParameterDeclaration,
 ) -> Result<(), AllocError>
     ensures { OnOk result (names.new ≡ parameters_declared overrides.now d.now names.old) }
@@ -199,7 +150,6 @@ pub fn declare_localparams(
 ) -> Result<(), AllocError>
     ensures { OnOk result (names.new ≡ localparams_declared d.now names.old) }
 {
-    let none = Table::new(alloc);
-    declare_parameters(alloc, names, &none, d)?;
+    declare_parameters(alloc, names, &Overrides::Absent, d)?;
     Ok(())
 }
