@@ -2,3 +2,4 @@ pub mod Values
 pub mod Overrides
 pub mod Shapes
 pub mod Parameters
+pub mod Signals
