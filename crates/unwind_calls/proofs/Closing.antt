@@ -1,6 +1,6 @@
 -- What a function gives at its closing brace.
 use Rattle.std.proofs.Common.{◌≡◌, [], ◌∷◌, ◌++◌, Some, None, Bool, true, false, refl, sym, ap, ◌∙◌, subst, append-nil}
-use Rattle.std.specs.Prelude.{ℤ, pos}
+use Rattle.std.specs.Prelude.{ℤ, pos, Option, IfSome}
 use Rattle.std.proofs.Math.Nat.{mod-eq_of_lt}
 use Rattle.bits_core.specs.Word.{number, at_zero}
 use Rattle.word_eqs.specs.declared.list.Act.TheVariants.{Free}
@@ -11,8 +11,8 @@ use Rattle.joint_ir.specs.declared.way.Way.TheVariants.{Next, Returning}
 use Rattle.joint_ir.specs.Effects.{nothing, drew, preceded, Goes}
 use Rattle.joint_ir.specs.States.{JointState}
 use Rattle.joint_ir.specs.Statements.{closing}
-use Rattle.joint_ir.specs.Steps.{returning}
-use Rattle.joint_ir.specs.Types.{IsType, int, converted}
+use Rattle.joint_ir.specs.Steps.{returning, type_or_int}
+use Rattle.joint_ir.specs.Types.{IsType, Single, converted, int}
 use Rattle.joint_ir.specs.Values.{Answer, Value, Fault}
 use Rattle.sized_terms.specs.declared.SizedTerm.{SizedTerm}
 use Rattle.sized_terms.specs.Sized.{Has, bits}
@@ -47,6 +47,11 @@ guard_grown n0 n1 (When t) G h = (G.kept t h.0, h.1)
 abbrev answer_number : Answer → ℤ
 answer_number (Value n) = n
 answer_number (Fault p) = pos 0
+
+-- a type of a result, or `int`
+pub typed_or_int : (o : Option IntType) → IfSome o IsType → IsType (type_or_int o)
+typed_or_int None h = Single true
+typed_or_int (Some t) h = h
 
 -- a literal 0
 pub nought_made : (n0 n1 : Unrolled) (ty : IntType) (t : SizedTerm) → n1.list ≡ n0.list → IsChecked n0.terms n1.terms ty 0 1 (plain t) (λ v. Value (pos 0)) → IsNought n0 n1 ty t

@@ -1,7 +1,11 @@
 -- A call is unwound: its arguments, its parameters, its body, the caller's rows put back, and the closing brace; or it breaks its property.
-use Rattle.std.proofs.Common.{◌≡◌, ℕ, suc, ◌+◌, ◌≤◌, List, [], ◌∷◌, ◌++◌, true, false, Some, length, refl, sym, ap, ◌∙◌, subst, le_refl, ◌⊎◌, arith}
-use Rattle.std.specs.Prelude.{ℤ, eqb, slice_get, Contains}
+use Rattle.std.proofs.Common.{◌≡◌, ℕ, zero, suc, ◌+◌, ◌<◌, ◌≤◌, List, [], ◌∷◌, ◌++◌, true, false, Some, length, refl, sym, ap, ◌∙◌, subst, le_refl, ◌⊎◌, inl, inr, arith}
+use Rattle.std.specs.Prelude.{ℤ, pos, Bool, nat_lt, ◌&&◌, eqb, slice_get, Contains}
+use Rattle.std.proofs.lemmas.Bool.{false≢true}
+use Rattle.std.proofs.lemmas.Bool.Decides.{nat_tests}
 use Rattle.std.proofs.lemmas.List.{length-map}
+use Rattle.std.proofs.lemmas.List.Elements.{All-weaker}
+use Rattle.bits_core.specs.Word.{number, at_zero}
 use Rattle.word_eqs.specs.declared.list.Act.TheVariants.{Prop}
 use Rattle.word_eqs.specs.Meaning.{Values, Respects}
 use Rattle.joint_ir.specs.declared.ctype.IntType.{IntType}
@@ -14,6 +18,7 @@ use Rattle.joint_ir.specs.Effects.{Effect, Onward, then_do, with_values}
 use Rattle.joint_ir.specs.States.{JointState}
 use Rattle.joint_ir.specs.Statements.{after, after_body, body_effect, calls_at, is_below_limit, recursion_prop, set_params}
 use Rattle.joint_ir.specs.Steps.{Setting, Calls, rows_in, result_of, type_or_int}
+use Rattle.joint_ir.specs.Values.{is_zero}
 use Rattle.joint_ir.specs.WellFormed.{Scope, FitsBody, FitsCall, FitsCallee, FitsStmt, IsWellFormed, declared_behind, places_from, scope_of, with_scope_locals}
 use Rattle.joint_lists.specs.Own.{own_end, KeepsOthers, GoesWith}
 use Rattle.joint_lists.proofs.Keeping.{params_before, params_keep, own_keeps}
@@ -33,9 +38,9 @@ use Rattle.unwind_simple.specs.declared.simple.Activation.{Activation}
 use Rattle.unwind_simple.specs.Obtaining.{Valuing}
 use Rattle.unwind_simple.specs.Simple.{calls_in, is_in, setting_of}
 use Rattle.unwind_simple.proofs.Returning.{with_result}
-use Rattle.unwind_simple.proofs.Statements.{grown_objects}
+use Rattle.unwind_simple.proofs.Statements.{grown_objects, zero_number}
 use Rattle.unwind_calls.specs.Arguments.{AreArguments, AreSet, numbers_at, params_at, with_params}
-use Rattle.unwind_calls.specs.Calls.{Returns, IsCalled, IsClosing, call_value, handed}
+use Rattle.unwind_calls.specs.Calls.{Returns, IsCalled, IsRefused, may_enter, IsClosing, call_value, handed}
 use Rattle.unwind_calls.specs.Rows.{IsBack}
 use Rattle.unwind_calls.proofs.Called.{called}
 use Rattle.unwind_calls.proofs.Declared.{own_within}
@@ -62,6 +67,33 @@ grows_on n0 n1 n2 p q = record { grown = λ v r. p.grown v (q.grown v r); kept =
 
 grows_by : (n0 n1 : Unrolled) → Adds n0 n1 → Grows n0.terms n1.terms
 grows_by n0 n1 a = record { grown = a.grown; kept = a.kept; proper = a.proper }
+
+-- terms more behind arguments
+arguments_on : (a : Activation) (n0 n1 n2 : Unrolled) (s : State) (es : List TExpr) (g : Guard) (ts : List SizedTerm) → AreArguments a n0 n1 s es g ts → Adds n1 n2 → AreArguments a n0 n2 s es g ts
+arguments_on a n0 n1 n2 s es g ts A adds = record {
+  grows = grows_on n0 n1 n2 A.grows (grows_by n1 n2 adds);
+  has = All-weaker (Has n1.terms) (Has n2.terms) adds.kept ts A.has;
+  widths = A.widths;
+  asks = λ c inside fits.
+      let K = A.asks c inside fits in
+      record { grown = λ v r. K.grown v (adds.grown v r); more = K.more; list = adds.list ∙ K.list; idle = λ v r. K.idle v (adds.grown v r); live = λ v r. K.live v (adds.grown v r) };
+}
+
+-- a word of a number 0 is 0
+nought_word : (s : Bool) (w n : ℕ) → number s w n ≡ pos 0 → n ≡ 0
+nought_word s w n h = by_case n (sym (zero_number s w n) ∙ ap is_zero h)
+  where
+    by_case : (m : ℕ) → at_zero m true false ≡ true → m ≡ 0
+    by_case zero e = refl
+    by_case (suc m) e = absurd (false≢true e)
+
+some_left : (n : ℕ) → 0 < n → nat_lt 0 n ≡ true
+some_left n h = grind (arith, nat_tests)
+
+-- what keeps a call from beginning an activation
+no_more : (left : ℕ) (below : Bool) → (nat_lt 0 left && below) ≡ false → (left ≡ 0) ⊎ (below ≡ false)
+no_more zero below h = inl refl
+no_more (suc left) below h = inr (ap (λ b. b && below) (sym (some_left (suc left) (omega arith))) ∙ h)
 
 module _ (a : Activation) (call : TCall) (fn : Function) (body : TStmt) (found : slice_get a.pair.now.program.functions call.function ≡ Some fn) (some : fn.body ≡ Some body) where
   -- what a call does at its arguments
@@ -96,6 +128,16 @@ module _ (a : Activation) (call : TCall) (fn : Function) (body : TStmt) (found :
             (returns_broken (IsSettled p) n1 n2 s (type_or_int fn.result) (recursion_prop p.program fn) z (λ v. at_arguments (numbers_at v call.args ts)) g x (IsState p c.locals) (IsState p c.locals) P zero_is
             (λ v s c go. ap (λ e. then_do e (λ s' rest. go (handed fn.result s') s' rest)) (calls_refused p a.bounds.now call.function call.place (numbers_at v call.args ts) fn body a.standing.now found some a.left s c may))));
       }
+
+  -- the same, as it is made
+  pub refused_called : (n0 n1 n2 : Unrolled) (s : State) (g : Guard) (ts : List SizedTerm) (x : SizedTerm) → may_enter a call.function fn ≡ false → HasObjects a.pair.now.program n0.terms s.objects → AreArguments a n0 n1 s call.args g ts → IsRefused a n1 n2 fn g x →
+      IsCalled a n0 n2 s s call fn.result g x
+  refused_called n0 n1 n2 s g ts x may H A R =
+      let ty = type_or_int fn.result in
+      let Z = R.nought in
+      let P = R.pushed in
+      call_refused n0 R.mid n2 s g ts x x (no_more a.left (is_below_limit a.pair.now a.bounds.now a.standing.now call.function fn) may) H (arguments_on a n0 n1 R.mid s call.args g ts A Z.adds) P
+      (λ v r. nought_word ty.signed ty.bits (bits v x) (Z.value v (P.grows.grown v r))) (P.grows.kept x Z.has) Z.width
 
   module _ (left : ℕ) (left_is : a.left ≡ suc left) (may : is_below_limit a.pair.now a.bounds.now a.standing.now call.function fn ≡ true) where
     -- what the body runs in, and what calls in it do

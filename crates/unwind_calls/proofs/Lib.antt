@@ -7,3 +7,4 @@ pub mod Listing
 pub mod Declared
 pub mod Entering
 pub mod Joining
+pub mod Uses

@@ -1,16 +1,19 @@
 -- What the unwinding of a call promises (C99 6.5.2.2).
-use Rattle.std.specs.Prelude.{◌≡◌, ℕ, ℤ, Bool, true, false, bit_or, pos, List, [], ◌++◌, Option, Some, None}
+use Rattle.std.specs.Prelude.{◌≡◌, ℕ, ℤ, nat_lt, ◌&&◌, Bool, true, false, bit_or, pos, List, [], ◌++◌, Option, Some, None}
 use Rattle.bits_core.specs.Word.{number}
+use Rattle.word_eqs.specs.declared.list.Act.TheVariants.{Prop}
 use Rattle.word_eqs.specs.declared.list.Step.{Step}
 use Rattle.word_eqs.specs.Meaning.{Values, Respects}
 use Rattle.joint_ir.specs.declared.ctype.IntType.{IntType}
+use Rattle.joint_ir.specs.declared.program.Function.{Function}
 use Rattle.joint_ir.specs.declared.stmt.TCall.{TCall}
+use Rattle.joint_ir.specs.declared.stmt.TInit.TheVariants.{Called}
 use Rattle.joint_ir.specs.Effects.{then_do}
 use Rattle.joint_ir.specs.States.{JointState}
 use Rattle.joint_ir.specs.declared.way.Way.{Way}
 use Rattle.joint_ir.specs.declared.way.Way.TheVariants.{Next, Breaking, Continuing, Returning}
-use Rattle.joint_ir.specs.Statements.{closing}
-use Rattle.joint_ir.specs.Steps.{Setting, Calls, call_effect, type_or_int, returning}
+use Rattle.joint_ir.specs.Statements.{closing, is_below_limit, recursion_prop}
+use Rattle.joint_ir.specs.Steps.{Setting, Calls, call_effect, type_or_int, returning, with_init}
 use Rattle.joint_ir.specs.WellFormed.{Scope, FitsCall}
 use Rattle.sized_terms.specs.declared.SizedTerm.{SizedTerm}
 use Rattle.sized_terms.specs.Sized.{Has, bits}
@@ -22,7 +25,7 @@ use Rattle.unwind_state.specs.declared.state.State.{State}
 use Rattle.unwind_state.specs.declared.state.Flow.{Flow}
 use Rattle.unwind_state.specs.Guards.{Adds, bit_at, bits_of}
 use Rattle.unwind_state.specs.Images.{Image, look, IsState, IsSettled, HasReturned}
-use Rattle.unwind_state.specs.Unwinding.{Grows, IsDrawn}
+use Rattle.unwind_state.specs.Unwinding.{Grows, IsDrawn, IsPushed}
 use Rattle.unwind_state.specs.Writing.{HasObjects}
 use Rattle.unwind_simple.specs.declared.simple.Activation.{Activation}
 use Rattle.unwind_simple.specs.Simple.{is_in, setting_of, calls_in}
@@ -96,3 +99,22 @@ pub record IsClosing (n0 n1 : Unrolled) (is_main : Bool) (result : Option IntTyp
   pub has : Has n1.terms t
   pub width : t.width ≡ (type_or_int result).bits
   pub closes : (st : State) → st.result ≡ returned → Closes n0 n1 st is_main result (λ v. fell_of (bits_of v ways)) t
+
+-- a function may have one more activation: one is left, and the function has fewer than its limit
+abbrev pub may_enter : Activation → (function : ℕ) → Function → Bool
+may_enter a f fn = nat_lt 0 a.left && is_below_limit a.pair.now a.bounds.now a.standing.now f fn
+
+-- a call that may not: its function's property breaks where the guard is 1, behind a term that is 0
+pub record IsRefused (a : Activation) (n0 n1 : Unrolled) (fn : Function) (g : Guard) (t : SizedTerm) : Type 0 where
+  pub mid : Unrolled
+  pub nought : IsNought n0 mid (type_or_int fn.result) t
+  pub pushed : IsPushed mid n1 g (Prop (recursion_prop a.pair.now.program fn).0 t.term)
+
+-- what a call hands on, converted to the type of the object that is set to it, wherever it fits
+pub record IsReceived (a : Activation) (n0 n1 : Unrolled) (s0 s1 : State) (ty : IntType) (call : TCall) (g : Guard) (t : SizedTerm) : Type 0 where
+  pub grows : Grows n0.terms n1.terms
+  pub objects : HasObjects a.pair.now.program n1.terms s1.objects
+  pub outer : s1.result ≡ s0.result
+  pub has : Has n1.terms t
+  pub width : t.width ≡ ty.bits
+  pub receives : (c : Scope) → is_in a c → FitsCall c call → Returns (IsSettled a.pair.now) n0 n1 s0 s1 ty (λ v s choices go. with_init (setting_of a) (calls_in a) ty (Called call) s choices go) g t (IsState a.pair.now c.locals) (IsState a.pair.now c.locals)

@@ -2,11 +2,13 @@
 #![tactic(auto)]
 
 mod brace;
+mod entries;
 mod parameters;
 mod rows;
 mod values;
 
 pub use brace::close;
+pub use entries::{may_enter, nought, refuse};
 pub use parameters::set_params;
 pub use rows::{kept, put_back};
 pub use values::arguments;
