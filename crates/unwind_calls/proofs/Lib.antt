@@ -8,3 +8,4 @@ pub mod Declared
 pub mod Entering
 pub mod Joining
 pub mod Uses
+pub mod Beginning

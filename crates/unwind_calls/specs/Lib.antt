@@ -1,3 +1,4 @@
 pub mod Rows
 pub mod Arguments
 pub mod Calls
+pub mod Bodies
