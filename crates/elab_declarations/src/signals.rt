@@ -222,7 +222,8 @@ pub fn direct_port(
     }
 }
 
-fn may_follow(port: Option<ListedPort>) -> Option<u32>
+/// The number of a port that one `wire` or `reg` may follow.
+pub fn may_follow(port: Option<ListedPort>) -> Option<u32>
     ensures { result ≡ may_follow_of port }
 {
     match port {
