@@ -3,6 +3,7 @@
 
 mod blocks;
 mod loops;
+mod results;
 mod tests_of;
 
 pub use blocks::stmt;

@@ -71,7 +71,7 @@ module _ (a : Activation) where
   pub local_typed : (n : Unrolled) (st : State) (x : ℕ) (init : TInit) (g : Guard) (ty : IntType) → ty ≡ slot_type a.pair.now.program (Local x) → MayRun a n st g (λ c. FitsDeclare c x init) → IsType ty
   local_typed n st x init g ty is M = subst IsType (sym is) (has_types a.pair.now M.well (Local x) (local_there M.scope x init M.program M.fits))
 
-  declare_is : (calls : Calls) (line x : ℕ) (init : TInit) (var : Var) (s : JointState) (c : List ℕ) → slice_get a.pair.now.program.locals x ≡ Some var → slot_length a.pair.now.program (Local x) ≡ 0 →
+  pub declare_is : (calls : Calls) (line x : ℕ) (init : TInit) (var : Var) (s : JointState) (c : List ℕ) → slice_get a.pair.now.program.locals x ≡ Some var → slot_length a.pair.now.program (Local x) ≡ 0 →
       with_init (setting_of a) calls (slot_type a.pair.now.program (Local x)) init s c (store_at line (Local x) None) ≡ declare_effect (setting_of a) calls line x init s c
   declare_is calls line x init var s c at plain =
       let len : var.length ≡ 0 = sym (ap var_length at) ∙ plain in
@@ -79,7 +79,7 @@ module _ (a : Activation) where
       ∙ ap (λ o. declare_var (setting_of a) calls line x o init s c) (sym at)
 
   -- a local's one element takes a value, and it is declared
-  declares : (visible : List ℕ) (x : ℕ) (n0 n1 : Unrolled) (st : State) (o : Objects) (value : SizedTerm) (g : Guard) → 0 < length (terms_of st.objects (Local x)) → length (terms_of o (Local x)) ≡ 1 → IsPut n0 n1 st.objects o (Local x) 0 value g →
+  pub declares : (visible : List ℕ) (x : ℕ) (n0 n1 : Unrolled) (st : State) (o : Objects) (value : SizedTerm) (g : Guard) → 0 < length (terms_of st.objects (Local x)) → length (terms_of o (Local x)) ≡ 1 → IsPut n0 n1 st.objects o (Local x) 0 value g →
       Changes (fixed a) n0 n1 st (with_objects st o) g (state a visible) (state a (x ∷ visible)) (λ v s. with_store s (put s.store (Local x) 0 (stands (slot_type a.pair.now.program (Local x)) v value)))
   declares visible x n0 n1 st o value g some one P =
       let C = first_changes a.pair.now visible x n0 n1 st o 0 value g some P in

@@ -59,7 +59,7 @@ module _ (a : Activation) where
       ∙ array_count (slot_length a.pair.now.program target.slot) (ap (λ p. is_array p target.slot) (sym inside.0) ∙ fits.object.shape ∙ ap is_some is)
 
   -- what a store to an element does
-  store_is : (calls : Calls) (target : TTarget) (init : TInit) (e : TExpr) (i : Option TExpr) → i ≡ Some e → (s : JointState) (c : List ℕ) →
+  pub store_is : (calls : Calls) (target : TTarget) (init : TInit) (e : TExpr) (i : Option TExpr) → i ≡ Some e → (s : JointState) (c : List ℕ) →
       with_value (value_of (rows_in (setting_of a) s) e) c
       (λ m. with_init (setting_of a) calls (slot_type a.pair.now.program target.slot) init s c (λ n s' rest. within_bounds (setting_of a) target (Some m) s' rest (λ index. store_at target.place.line target.slot index n s' rest)))
       ≡ store_effect (setting_of a) calls (record { place = target.place; slot = target.slot; index = i; bounds = target.bounds }) init s c

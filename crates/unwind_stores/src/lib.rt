@@ -9,5 +9,6 @@ mod stores;
 mod updates;
 
 pub use declarations::declare;
+pub use elements::{bounded, put_at};
 pub use stores::store;
 pub use updates::update;

@@ -1,5 +1,5 @@
 use Rattle.std.proofs.Common.{◌≡◌, ◌<◌, length, false, suc, ◌+◌, ◌-◌, [], ◌∷◌, take, drop, refl, sym, ap, ◌∙◌, subst, arith}
-use Rattle.std.specs.Prelude.{Some}
+use Rattle.std.specs.Prelude.{All, Option, Some, ℕ, List, slice_get}
 use Rattle.std.proofs.lemmas.Grind.{common_steps}
 use Rattle.std.proofs.lemmas.List.{drop_more}
 use Rattle.std.proofs.Math.ListN.{drop_of_length-le}
@@ -9,23 +9,45 @@ use Rattle.joint_ir.specs.declared.stmt.Group.{Group, out-Group}
 use Rattle.joint_ir.specs.declared.stmt.TLoop.{out-TLoop}
 use Rattle.joint_ir.specs.declared.stmt.TStmt.{TStmt}
 use Rattle.joint_ir.specs.declared.way.Way.TheVariants.{Next, Breaking, Continuing}
-use Rattle.joint_ir.specs.Statements.{after, after_loop}
+use Rattle.joint_ir.specs.Statements.{after, after_loop, calls_at}
+use Rattle.joint_ir.specs.declared.program.Function.{Function}
+use Rattle.unwind_state.specs.Images.{IsState, IsSettled, IsBehind}
+use Rattle.unwind_state.specs.Unwinding.{Unwinds}
+use Rattle.unwind_state.specs.Writing.{HasResult, with_objects}
+use Rattle.unwind_blocks.proofs.Strides.{enter_falls}
 use Rattle.joint_ir.specs.declared.program.CProgram.{CProgram}
-use Rattle.joint_ir.specs.Steps.{call_effect, next_frame, return_effect, set_inputs, slot_type, store_effect, update_effect}
-use Rattle.joint_ir.specs.WellFormed.{Scope, FitsExpr, FitsInit, FitsStmt, declared_behind, in_a_switch}
+use Rattle.joint_ir.specs.Steps.{call_effect, declare_effect, next_frame, result_of, return_effect, set_inputs, slot_type, store_effect, update_effect}
+use Rattle.joint_ir.specs.WellFormed.{Scope, FitsDeclare, FitsExpr, FitsInit, FitsStmt, FitsTarget, declared_behind, in_a_switch, scope_of}
 use Rattle.joint_lists.specs.Lists.{after_items, after_option, entered_case, FitsOptional}
 use Rattle.joint_lists.proofs.Rows.{after-block, after-if, after-switch}
 use Rattle.joint_lists.proofs.Shapes.{fits-block, fits-if, fits-switch}
 use Rattle.trails.specs.Following.{goes}
-use Rattle.unwind_simple.specs.Simple.{setting_of, calls_in, asserted_as, assumed_as}
-use Rattle.unwind_simple.proofs.Statements.{grown_result}
+use Rattle.joint_ir.specs.declared.ctype.IntType.{IntType}
+use Rattle.joint_ir.specs.declared.expr.Slot.TheVariants.{Local}
+use Rattle.joint_ir.specs.declared.stmt.TInit.{TInit}
+use Rattle.unwind_simple.specs.Simple.{setting_of, calls_in, stored_type, asserted_as, assumed_as, IsDone, MayRun}
+use Rattle.unwind_simple.proofs.Returning.{own_typed, with_result}
+use Rattle.unwind_simple.proofs.Statements.{grown_result, there_in}
+use Rattle.unwind_simple.proofs.Storing.{store_typed}
+use Rattle.unwind_stores.proofs.Bounds.{index_fits}
+use Rattle.unwind_stores.proofs.Declared.{local_there}
+use Rattle.unwind_stores.proofs.Storing.{bounded_grows, array_terms}
+use Rattle.unwind_stores.proofs.Rows.{some_terms, old_has}
 use Rattle.unwind_state.proofs.Gates.{guard_below, guard_kept}
 use Rattle.switch_guards.specs.Entries.{number_of}
 use Rattle.switch_guards.proofs.Placing.{placed_get}
 use Rattle.unwind_blocks.proofs.Cases.{CasesLeft, cases_first, cases_more, cases_last, done_switch, switch_labels, group_fits, group_here}
 use Rattle.unwind_blocks.proofs.Orders.{Sofar, scope_behind, next_fits, declares, stays}
-use Rattle.unwind_blocks.proofs.Branches.{grows_adds, grows_then, guard_grows, flow_grows, objects_grow, tested_grows, done_if, done_as, done_at, done_declared, done_block, done_fewer, done_way, unwound_at, breaks, continues, sofar_first, sofar_more, sofar_last}
+use Rattle.unwind_blocks.proofs.Branches.{grows_adds, grows_then, guard_grows, flow_grows, objects_grow, tested_grows, done_if, done_as, done_at, done_declared, done_block, done_fewer, done_way, unwound, unwound_at, breaks, continues, sofar_first, sofar_more, sofar_last}
 use Rattle.unwind_blocks.proofs.Turns.{left_first, left_more, left_over, done_loop, inner_of, fits_heads, fits_turns, fits_last, last_simple, turn_made}
+use Rattle.unwind_state.specs.declared.state.Flow.{Flow}
+use Rattle.unwind_calls.specs.Arguments.{AreArguments}
+use Rattle.unwind_calls.proofs.Beginning.{body_fits, begun_objects, begun_result, begun_guard, left_room, body_called}
+use Rattle.unwind_calls.proofs.Joining.{refused_called}
+use Rattle.unwind_calls.specs.Calls.{IsCalled, IsReceived}
+use Rattle.unwind_calls.proofs.Uses.{called_done, received}
+use Rattle.unwind_blocks.proofs.Uses.{returned_fits, done_returned, done_stored, done_stored_at, done_set}
+use Rattle.unwind_blocks.proofs.Calling.{some_left, next_left, below_limit, args_may, args_count, args_params}
 use Rattle.unwind_blocks.specs.Blocks.{IsUnwound}
 use Rattle.unwind_blocks.proofs.blocks.+blocks.Goals as goal
 
@@ -144,15 +166,15 @@ stmt-returns-in_ok-f-in-Block t c =
     (done_block at c.args.net.now c.block.new.net c.args.state.now c.block.new.state c.as_slice.result.now c.args.guard c.in_ok-f-in-Block.f d.locals (after_items k (calls_in at) c.as_slice.result.now)
     (c.in_ok-f-in-Block.ensures d inside (fits-block d s.node c.in-Block.items c.as_slice.result.now c.in-Block.is c.as_slice.ensures fits)))
 
-pub stmt-store-requires : goal.stmt-store-requires
-stmt-store-requires t c =
+pub stmt-stored-requires : goal.stmt-stored-requires
+stmt-stored-requires t c =
     let d = c.requires.scope in
     let F = subst (FitsStmt d) c.in-Store.is c.requires.fits in
-    record { well = c.requires.well; scope = d; program = c.requires.program; fits = (F.0, subst (λ (p : CProgram). FitsInit d false (slot_type p c.in-Store.target.slot) c.in-Store.init) c.requires.program.0 F.1); objects = c.requires.objects; result = c.requires.result; guard = c.requires.guard }
+    (omega arith, record { well = c.requires.well; scope = d; program = c.requires.program; fits = (F.0, subst (λ (p : CProgram). FitsInit d false (slot_type p c.in-Store.target.slot) c.in-Store.init) c.requires.program.0 F.1); objects = c.requires.objects; result = c.requires.result; guard = c.requires.guard })
 
-pub stmt-declare-requires : goal.stmt-declare-requires
-stmt-declare-requires t c =
-    record { well = c.requires.well; scope = c.requires.scope; program = c.requires.program; fits = subst (FitsStmt c.requires.scope) c.in-Declare.is c.requires.fits; objects = c.requires.objects; result = c.requires.result; guard = c.requires.guard }
+pub stmt-declared-requires : goal.stmt-declared-requires
+stmt-declared-requires t c =
+    (omega arith, record { well = c.requires.well; scope = c.requires.scope; program = c.requires.program; fits = subst (FitsStmt c.requires.scope) c.in-Declare.is c.requires.fits; objects = c.requires.objects; result = c.requires.result; guard = c.requires.guard })
 
 pub stmt-returns-in_ok-f-in-Declare : goal.stmt-returns-in_ok-f-in-Declare
 stmt-returns-in_ok-f-in-Declare t c =
@@ -160,7 +182,7 @@ stmt-returns-in_ok-f-in-Declare t c =
     let k = setting_of at in
     let s = c.args.s.now in
     λ d inside fits.
-    done_declared at c.args.net.now c.declare.new.net c.args.state.now c.declare.new.state c.args.guard c.in_ok-f-in-Declare.f d.locals s c.in-Declare.local c.in-Declare.init c.in-Declare.is
+    done_declared at c.args.net.now c.declared.new.net c.args.state.now c.declared.new.state c.args.guard c.in_ok-f-in-Declare.f d.locals s c.in-Declare.local c.in-Declare.init c.in-Declare.is
     (c.in_ok-f-in-Declare.ensures s.place.line d inside (subst (FitsStmt d) c.in-Declare.is fits))
 
 pub stmt-update-requires : goal.stmt-update-requires
@@ -178,9 +200,9 @@ stmt-returns-in_ok-f-in-Update t c =
     done_at at c.args.net.now c.update.new.net c.args.state.now c.update.new.state c.args.guard c.in_ok-f-in-Update.f d.locals s (Update c.in-Update.target c.in-Update.u) (update_effect k c.in-Update.target c.in-Update.u) c.in-Update.is refl
     (ap (after k (calls_in at) s.place) (sym c.in-Update.is)) (c.in_ok-f-in-Update.ensures d inside F.0 F.1)
 
-pub stmt-called-requires : goal.stmt-called-requires
-stmt-called-requires t c =
-    record { well = c.requires.well; scope = c.requires.scope; program = c.requires.program; fits = subst (FitsStmt c.requires.scope) c.in-Call.is c.requires.fits; objects = c.requires.objects; result = c.requires.result; guard = c.requires.guard }
+pub stmt-call_made-requires : goal.stmt-call_made-requires
+stmt-call_made-requires t c =
+    (omega arith, record { well = c.requires.well; scope = c.requires.scope; program = c.requires.program; fits = subst (FitsStmt c.requires.scope) c.in-Call.is c.requires.fits; objects = c.requires.objects; result = c.requires.result; guard = c.requires.guard })
 
 pub stmt-returns-in_ok-f-in-Call : goal.stmt-returns-in_ok-f-in-Call
 stmt-returns-in_ok-f-in-Call t c =
@@ -188,12 +210,142 @@ stmt-returns-in_ok-f-in-Call t c =
     let k = setting_of at in
     let s = c.args.s.now in
     λ d inside fits.
-    done_at at c.args.net.now c.called.new.net c.args.state.now c.args.state.now c.args.guard c.in_ok-f-in-Call.f d.locals s (Call c.in-Call.call) (call_effect k (calls_in at) c.in-Call.call) c.in-Call.is refl
-    (ap (after k (calls_in at) s.place) (sym c.in-Call.is)) (c.in_ok-f-in-Call.ensures d inside)
+    unwound_at at c.args.net.now c.call_made.new.net c.args.state.now c.call_made.new.state c.args.guard c.in_ok-f-in-Call.f d.locals s (Call c.in-Call.call) (call_effect k (calls_in at) c.in-Call.call) c.in-Call.is refl
+    (ap (after k (calls_in at) s.place) (sym c.in-Call.is)) (c.in_ok-f-in-Call.ensures d inside (subst (FitsStmt d) c.in-Call.is fits))
 
-pub stmt-give_back-requires : goal.stmt-give_back-requires
-stmt-give_back-requires t c =
-    record { well = c.requires.well; scope = c.requires.scope; program = c.requires.program; fits = subst (FitsStmt c.requires.scope) c.in-Return.is c.requires.fits; objects = c.requires.objects; result = c.requires.result; guard = c.requires.guard }
+pub call_made-returns-in_ok-f-in-None : goal.call_made-returns-in_ok-f-in-None
+call_made-returns-in_ok-f-in-None t c =
+    λ d inside fits. unwound c.args.at.now c.args.net.now c.called.new.net c.args.state.now c.args.state.now c.args.guard c.in_ok-f-in-None.f d.locals d.locals (call_effect (setting_of c.args.at.now) (calls_in c.args.at.now) c.args.call.now) (c.in_ok-f-in-None.ensures d inside)
+
+pub call_made-returns-in_ok-call_value-in-Some-body : goal.call_made-returns-in_ok-call_value-in-Some-body
+call_made-returns-in_ok-call_value-in-Some-body t c =
+    let a = c.args.at.now in
+    λ d inside fits.
+    subst (λ (f : Flow). IsUnwound a c.args.net.now c.call_value.new.net c.args.state.now c.call_value.new.state c.args.guard f d.locals d.locals (call_effect (setting_of a) (calls_in a) c.args.call.now)) (sym c.only.ensures)
+    (unwound a c.args.net.now c.call_value.new.net c.args.state.now c.call_value.new.state c.args.guard _ d.locals d.locals (call_effect (setting_of a) (calls_in a) c.args.call.now)
+    (called_done a c.args.net.now c.call_value.new.net c.args.state.now c.call_value.new.state c.args.call.now _ c.args.guard c.in_ok-call_value-in-Some-body.field-0 d inside fits c.requires.guard c.in_ok-call_value-in-Some-body.ensures))
+
+pub call_value-arguments-requires : goal.call_value-arguments-requires
+call_value-arguments-requires t c =
+    let M = c.requires.run in
+    record { well = M.well; scope = M.scope; program = M.program; fits = subst (λ es. All (FitsExpr M.scope) es) (sym c.as_slice.ensures) (args_may c.args.at.now c.args.call.now c.args.callee.now c.args.body.now M.well c.requires.found c.requires.some M.scope M.program M.fits); objects = M.objects; result = M.result; guard = M.guard }
+
+pub call_value-returns-then-not-may_enter : goal.call_value-returns-then-not-may_enter
+call_value-returns-then-not-may_enter t c =
+    let M = c.requires.run in
+    let a = c.args.at.now in
+    let A = subst (λ es. AreArguments a c.args.net.now c.arguments.new.net c.args.state.now es c.args.guard c.in_ok-args.args.items) c.as_slice.ensures c.in_ok-args.ensures in
+    refused_called a c.args.call.now c.args.callee.now c.args.body.now c.requires.found c.requires.some c.args.net.now c.arguments.new.net c.refuse.new.net c.args.state.now c.args.guard c.in_ok-args.args.items c.in_ok-t.t (sym c.may_enter.ensures ∙ c.if-not-may_enter.true) M.objects A c.in_ok-t.ensures
+
+pub call_value-body_value-requires : goal.call_value-body_value-requires
+call_value-body_value-requires t c =
+    let a = c.args.at.now in
+    let call = c.args.call.now in
+    let fn = c.args.callee.now in
+    let body = c.args.body.now in
+    let R = c.requires in
+    let M = R.run in
+    let now = c.decreases in
+    let A : AreArguments a c.args.net.now c.arguments.new.net c.args.state.now call.args c.args.guard c.as_slice-args.result.now =
+    subst (λ ts. AreArguments a c.args.net.now c.arguments.new.net c.args.state.now call.args c.args.guard ts) (sym c.as_slice-args.ensures.value)
+    (subst (λ es. AreArguments a c.args.net.now c.arguments.new.net c.args.state.now es c.args.guard c.in_ok-args.args.items) c.as_slice.ensures c.in_ok-args.ensures) in (
+      omega arith,
+      (
+        M.well,
+        (
+          R.found,
+          (
+            R.some,
+            (
+              sym c.may_enter.ensures ∙ c.if-not-may_enter.false,
+              (
+                objects_grow a c.args.net.now.terms c.arguments.new.net.terms c.args.state.now.objects A.grows M.objects,
+                (
+                  guard_grows c.args.net.now.terms c.arguments.new.net.terms c.args.guard A.grows M.guard,
+                  (
+                    A.has,
+                    (args_params a call fn body M.well R.found R.some M.scope M.program M.fits c.as_slice-args.result.now A.widths, args_count a call fn body M.well R.found R.some M.scope M.program M.fits c.as_slice-args.result.now A.widths),
+                  ),
+                ),
+              ),
+            ),
+          ),
+        ),
+      ),
+    )
+
+pub call_value-returns : goal.call_value-returns
+call_value-returns t c =
+    let a = c.args.at.now in
+    let M = c.requires.run in
+    let A = subst (λ es. AreArguments a c.args.net.now c.arguments.new.net c.args.state.now es c.args.guard c.in_ok-args.args.items) c.as_slice.ensures c.in_ok-args.ensures in
+    c.in_ok-t-2.ensures c.args.net.now M.objects (subst (λ ts. AreArguments a c.args.net.now c.arguments.new.net c.args.state.now c.args.call.now.args c.args.guard ts) (sym c.as_slice-args.ensures.value) A)
+
+pub body_value-stmt-requires : goal.body_value-stmt-requires
+body_value-stmt-requires t c =
+    let a = c.args.at.now in
+    let p = a.pair.now in
+    let call = c.args.call.now in
+    let fn = c.args.callee.now in
+    let body = c.args.body.now in
+    let R = c.requires in
+    let left = some_left a call.function fn R.may in
+    let falls = enter_falls p.program.functions a.left call.function fn body left R.found R.some in
+    let now = c.decreases in
+    (omega arith, record { well = R.well; scope = scope_of p.program call.function fn; program = (refl, refl); fits = (body_fits p call.function fn body R.well R.found R.some).2; objects = begun_objects a call fn body R.well R.found R.some c.args.net.now c.begin.new.net c.args.state.now c.begin.new.state c.args.args.now c.args.guard c.in_ok-caller.caller c.in_ok-caller.ensures; result = begun_result a call fn body R.well R.found R.some c.args.net.now c.begin.new.net c.args.state.now c.begin.new.state c.args.args.now c.args.guard c.in_ok-caller.caller c.in_ok-caller.ensures; guard = begun_guard a call fn body R.well R.found R.some c.args.net.now c.begin.new.net c.args.state.now c.begin.new.state c.args.args.now c.args.guard c.in_ok-caller.caller c.in_ok-caller.ensures R.guard })
+
+pub body_value-leave-requires-clause-room : goal.body_value-leave-requires-clause-room
+body_value-leave-requires-clause-room t c =
+    let a = c.args.at.now in
+    let p = a.pair.now in
+    let call = c.args.call.now in
+    let fn = c.args.callee.now in
+    let body = c.args.body.now in
+    let R = c.requires in
+    let fits = (body_fits p call.function fn body R.well R.found R.some).2 in
+    left_room a call fn body R.well R.found R.some c.args.net.now c.begin.new.net c.args.state.now c.begin.new.state c.args.args.now c.args.guard c.in_ok-caller.caller c.in_ok-caller.ensures c.stmt.new.net c.stmt.new.state.objects (c.in_ok-ways.ensures (scope_of p.program call.function fn) (refl, refl) fits).objects
+
+pub body_value-leave-requires-clause-ways : goal.body_value-leave-requires-clause-ways
+body_value-leave-requires-clause-ways t c =
+    let a = c.args.at.now in
+    let p = a.pair.now in
+    let call = c.args.call.now in
+    let fn = c.args.callee.now in
+    let body = c.args.body.now in
+    let R = c.requires in
+    let fits = (body_fits p call.function fn body R.well R.found R.some).2 in
+    (c.in_ok-ways.ensures (scope_of p.program call.function fn) (refl, refl) fits).flow
+
+pub body_value-leave-requires-clause-returned : goal.body_value-leave-requires-clause-returned
+body_value-leave-requires-clause-returned t c =
+    let a = c.args.at.now in
+    let p = a.pair.now in
+    let call = c.args.call.now in
+    let fn = c.args.callee.now in
+    let body = c.args.body.now in
+    let R = c.requires in
+    let fits = (body_fits p call.function fn body R.well R.found R.some).2 in
+    subst (λ (o : Option Function). HasResult (result_of o) c.stmt.new.net.terms c.stmt.new.state.result) R.found ((c.in_ok-ways.ensures (scope_of p.program call.function fn) (refl, refl) fits).result (begun_result a call fn body R.well R.found R.some c.args.net.now c.begin.new.net c.args.state.now c.begin.new.state c.args.args.now c.args.guard c.in_ok-caller.caller c.in_ok-caller.ensures))
+
+pub body_value-returns : goal.body_value-returns
+body_value-returns t c =
+    let a = c.args.at.now in
+    let p = a.pair.now in
+    let call = c.args.call.now in
+    let fn = c.args.callee.now in
+    let body = c.args.body.now in
+    let R = c.requires in
+    let fits = (body_fits p call.function fn body R.well R.found R.some).2 in
+    let S = c.in_ok-ways.ensures (scope_of p.program call.function fn) (refl, refl) fits in
+    let standing = c.as_slice.ensures.value ∙ c.in_ok-caller.ensures.standing in
+    λ n H A.
+    body_called a call fn body R.well R.found R.some c.args.net.now c.begin.new.net c.args.state.now c.begin.new.state c.args.args.now c.args.guard c.in_ok-caller.caller c.in_ok-caller.ensures (a.left - 1) (next_left a call.function fn R.may) (below_limit a call.function fn R.may) n c.stmt.new.net c.leave.new.net c.stmt.new.state c.leave.new.state c.in_ok-ways.ways c.in_ok-t.t H A S.grows S.objects
+    (λ d inside h. subst (λ (l : List ℕ). Unwinds (IsSettled p) c.begin.new.net c.stmt.new.net c.begin.new.state c.stmt.new.state (λ v. after (record { pair = p; bounds = a.bounds.now; here = call.function }) (calls_at p a.bounds.now (a.left - 1) l) body.place body.node) c.args.guard c.in_ok-ways.ways (IsState p d.locals) (IsBehind p (declared_behind body.node d.locals) (result_of (slice_get p.program.functions call.function))) goes) standing
+    (c.in_ok-ways.ensures d inside h).does) c.in_ok-t.ensures
+
+pub stmt-returned-requires : goal.stmt-returned-requires
+stmt-returned-requires t c =
+    (omega arith, record { well = c.requires.well; scope = c.requires.scope; program = c.requires.program; fits = subst (FitsStmt c.requires.scope) c.in-Return.is c.requires.fits; objects = c.requires.objects; result = c.requires.result; guard = c.requires.guard })
 
 pub stmt-returns-in_ok-f-in-Return : goal.stmt-returns-in_ok-f-in-Return
 stmt-returns-in_ok-f-in-Return t c =
@@ -201,7 +353,7 @@ stmt-returns-in_ok-f-in-Return t c =
     let k = setting_of at in
     let s = c.args.s.now in
     λ d inside fits.
-    done_at at c.args.net.now c.give_back.new.net c.args.state.now c.give_back.new.state c.args.guard c.in_ok-f-in-Return.f d.locals s (Return c.in-Return.init) (return_effect k (calls_in at) c.in-Return.init) c.in-Return.is refl
+    done_at at c.args.net.now c.returned.new.net c.args.state.now c.returned.new.state c.args.guard c.in_ok-f-in-Return.f d.locals s (Return c.in-Return.init) (return_effect k (calls_in at) c.in-Return.init) c.in-Return.is refl
     (ap (after k (calls_in at) s.place) (sym c.in-Return.is)) (c.in_ok-f-in-Return.ensures d inside (subst (FitsStmt d) c.in-Return.is fits))
 
 pub stmt-returns-in_ok-f-in-Store : goal.stmt-returns-in_ok-f-in-Store
@@ -211,7 +363,7 @@ stmt-returns-in_ok-f-in-Store t c =
     let s = c.args.s.now in
     λ d inside fits.
     let F = subst (FitsStmt d) c.in-Store.is fits in
-    done_at at c.args.net.now c.store.new.net c.args.state.now c.store.new.state c.args.guard c.in_ok-f-in-Store.f d.locals s (Store c.in-Store.target c.in-Store.init) (store_effect k (calls_in at) c.in-Store.target c.in-Store.init) c.in-Store.is refl
+    done_at at c.args.net.now c.stored.new.net c.args.state.now c.stored.new.state c.args.guard c.in_ok-f-in-Store.f d.locals s (Store c.in-Store.target c.in-Store.init) (store_effect k (calls_in at) c.in-Store.target c.in-Store.init) c.in-Store.is refl
     (ap (after k (calls_in at) s.place) (sym c.in-Store.is)) (c.in_ok-f-in-Store.ensures d inside F.0 (subst (λ (p : CProgram). FitsInit d false (slot_type p c.in-Store.target.slot) c.in-Store.init) inside.0 F.1))
 
 pub stmt-returns-in_ok-f-in-If : goal.stmt-returns-in_ok-f-in-If
@@ -567,3 +719,167 @@ cases-returns t c =
     λ d inside fits.
     cases_last c.args.at.now c.args.net.now c.enter_groups.new.net c.loop-i.net c.entered-2.new.net c.switched.new.net c.args.state.now c.loop-i.state groups i c.args.guard c.in_ok-entries.entries.past c.in_ok-entries.entries.groups.items c.args.ty c.args.value c.loop-i.ways c.in_ok-last.last c.in_ok-f-2.f
     over (omega (arith, h)) c.requires.run.guard c.in_ok-entries.ensures c.loop-i.invariant c.in_ok-last.ensures c.in_ok-f-2.ensures d inside fits
+
+pub received-returns : goal.received-returns
+received-returns t c =
+    let a = c.args.at.now in
+    let K = subst (λ (o : Option IntType). IsCalled a c.args.net.now c.call_value.new.net c.args.state.now c.call_value.new.state c.args.call.now o c.args.guard c.in_ok-handed.handed) c.in-Some-result.is c.in_ok-handed.ensures in
+    let T = c.in_ok-t.ensures in
+    received a c.args.net.now c.call_value.new.net c.as_type.new.net c.args.state.now c.call_value.new.state c.in-Some-result.from c.args.ty c.args.call.now c.args.guard c.in_ok-handed.handed c.in_ok-t.t K T.adds T.has T.width T.value
+
+pub result_declared-put-requires-clause-there : goal.result_declared-put-requires-clause-there
+result_declared-put-requires-clause-there t c =
+    let a = c.args.at.now in
+    let M = c.requires.may in
+    some_terms a.pair.now.program c.received.new.net.terms c.received.new.state.objects (Local c.args.local) c.in_ok-t.ensures.objects (local_there a M.scope c.args.local c.args.init.now M.program M.fits)
+
+pub result_declared-put-requires-clause-old : goal.result_declared-put-requires-clause-old
+result_declared-put-requires-clause-old t c =
+    let a = c.args.at.now in
+    let M = c.requires.may in
+    let V = c.in_ok-t.ensures in
+    old_has a.pair.now.program c.received.new.net.terms c.received.new.net.terms c.received.new.state.objects (Local c.args.local) 0 c.in_ok-t.t.width (local_there a M.scope c.args.local c.args.init.now M.program M.fits)
+    (V.width ∙ ap (λ (u : IntType). u.bits) c.slot_type-ty.ensures) (λ x k. k) V.objects
+
+pub result_declared-returns : goal.result_declared-returns
+result_declared-returns t c =
+    let a = c.args.at.now in
+    let x = c.args.local in
+    let call = c.in-Called.call in
+    let M = subst (λ (i : TInit). MayRun a c.args.net.now c.args.state.now c.args.guard (λ d. FitsDeclare d x i)) c.in-Called.is c.requires.may in
+    let V = subst (λ (u : IntType). IsReceived a c.args.net.now c.received.new.net c.args.state.now c.received.new.state u call c.args.guard c.in_ok-t.t) c.slot_type-ty.ensures c.in_ok-t.ensures in
+    λ line d inside fits.
+    subst (λ (i : TInit). IsDone a c.args.net.now c.put.new.net c.args.state.now (with_objects c.received.new.state c.put.new.objects) c.args.guard c.only.result d.locals (x ∷ d.locals) (declare_effect (setting_of a) (calls_in a) line x i)) (sym c.in-Called.is)
+    (done_set a c.args.net.now c.received.new.net c.put.new.net c.args.state.now c.received.new.state c.put.new.objects x call c.args.guard c.in_ok-t.t c.only.result c.only.ensures c.requires.plain M V c.in_ok-put.ensures line d inside
+    (subst (FitsDeclare d x) c.in-Called.is fits))
+
+pub result_returned-received-requires : goal.result_returned-received-requires
+result_returned-received-requires t c =
+    let a = c.args.at.now in
+    let R = c.requires in
+    let own = sym c.own_result.ensures ∙ c.in-Some.is in
+    let fits = subst (λ (i : TInit). FitsStmt R.scope (Return (Some i))) c.in-Called.is R.fits in (
+      omega arith,
+      (
+        record { well = R.well; scope = R.scope; program = R.program; fits = returned_fits a c.in-Some.ty c.in-Called.call own R.scope R.program fits; objects = R.objects; result = R.result; guard = R.guard },
+        own_typed a c.in-Some.ty R.well own,
+      ),
+    )
+
+pub result_returned-returns : goal.result_returned-returns
+result_returned-returns t c =
+    let a = c.args.at.now in
+    let own = sym c.own_result.ensures ∙ c.in-Some.is in
+    let M = subst (λ (i : TInit). MayRun a c.args.net.now c.args.state.now c.args.guard (λ d. FitsStmt d (Return (Some i)))) c.in-Called.is c.requires in
+    λ d inside fits.
+    subst (λ (i : TInit). IsDone a c.args.net.now c.chosen.new.net c.args.state.now (with_result c.received.new.state c.in_ok-state.field-0) c.args.guard c.only.result d.locals d.locals (return_effect (setting_of a) (calls_in a) (Some i))) (sym c.in-Called.is)
+    (done_returned a c.args.net.now c.received.new.net c.chosen.new.net c.args.state.now c.received.new.state c.in-Some.ty c.in-Called.call c.args.guard c.in_ok-t.t c.in_ok-state.field-0 c.only.result c.only.ensures own M c.in_ok-t.ensures c.in_ok-state.ensures d inside
+    (subst (λ (i : TInit). FitsStmt d (Return (Some i))) c.in-Called.is fits))
+
+pub result_stored-put-requires-clause-old : goal.result_stored-put-requires-clause-old
+result_stored-put-requires-clause-old t c =
+    let a = c.args.at.now in
+    let M = c.requires.may in
+    let V = c.in_ok-t.ensures in
+    let slot = c.args.target.now.slot in
+    old_has a.pair.now.program c.received.new.net.terms c.received.new.net.terms c.received.new.state.objects slot 0 c.in_ok-t.t.width (there_in a M.scope slot M.program M.fits.0.object.visible M.fits.0.stored)
+    (V.width ∙ ap (λ (u : IntType). u.bits) c.slot_type-ty.ensures) (λ x k. k) V.objects
+
+pub result_stored-returns : goal.result_stored-returns
+result_stored-returns t c =
+    let a = c.args.at.now in
+    let target = c.args.target.now in
+    let call = c.in-Called.call in
+    let M = subst (λ (i : TInit). MayRun a c.args.net.now c.args.state.now c.args.guard (λ d. FitsTarget d target × FitsInit d false (stored_type a target) i)) c.in-Called.is c.requires.may in
+    let V = subst (λ (u : IntType). IsReceived a c.args.net.now c.received.new.net c.args.state.now c.received.new.state u call c.args.guard c.in_ok-t.t) c.slot_type-ty.ensures c.in_ok-t.ensures in
+    λ d inside fits_target fits.
+    subst (λ (i : TInit). IsDone a c.args.net.now c.put.new.net c.args.state.now (with_objects c.received.new.state c.put.new.objects) c.args.guard c.only.result d.locals d.locals (store_effect (setting_of a) (calls_in a) target i)) (sym c.in-Called.is)
+    (done_stored a c.args.net.now c.received.new.net c.put.new.net c.args.state.now c.received.new.state c.put.new.objects target call c.args.guard c.in_ok-t.t c.only.result c.only.ensures M c.requires.plain V c.in_ok-put.ensures d inside fits_target
+    (subst (FitsInit d false (stored_type a target)) c.in-Called.is fits))
+
+pub returned-returns : goal.returned-returns
+returned-returns t c =
+    let a = c.args.at.now in
+    let is = c.in-Some.is in
+    λ d inside fits.
+    subst (λ (i : Option TInit). IsDone a c.args.net.now c.result_returned.new.net c.args.state.now c.result_returned.new.state c.args.guard c.in_ok-f-3.f d.locals d.locals (return_effect (setting_of a) (calls_in a) i)) (sym is)
+    (c.in_ok-f-3.ensures d inside (subst (λ (i : Option TInit). FitsStmt d (Return i)) is fits))
+
+pub result_stored_at-value-requires : goal.result_stored_at-value-requires
+result_stored_at-value-requires t c =
+    let M = c.requires.may in
+    record { scope = M.scope; program = M.program; fits = (index_fits M.scope c.args.target.now c.args.index.now c.requires.index M.fits.0).0; objects = M.objects; guard = M.guard }
+
+pub result_stored_at-received-requires : goal.result_stored_at-received-requires
+result_stored_at-received-requires t c =
+    let a = c.args.at.now in
+    let M = c.requires.may in
+    let target = c.args.target.now in
+    let slot = target.slot in
+    let G = c.in_ok-i.ensures.grows in
+    let fits = subst (FitsInit M.scope false (stored_type a target)) c.in-Called.is M.fits.1 in (
+      omega arith,
+      (
+        record { well = M.well; scope = M.scope; program = M.program; fits = fits.0; objects = objects_grow a c.args.net.now.terms c.value.new.net.terms c.args.state.now.objects G M.objects; result = grown_result a c.args.net.now.terms c.value.new.net.terms c.args.state.now.result G M.result; guard = guard_grows c.args.net.now.terms c.value.new.net.terms c.args.guard G M.guard },
+        store_typed a c.args.net.now c.args.state.now target c.args.init.now c.args.guard c.slot_type-ty.result c.slot_type-ty.ensures M,
+      ),
+    )
+
+pub result_stored_at-bounded-requires-clause-guard : goal.result_stored_at-bounded-requires-clause-guard
+result_stored_at-bounded-requires-clause-guard t c = guard_grows c.args.net.now.terms c.received.new.net.terms c.args.guard (grows_then c.args.net.now.terms c.value.new.net.terms c.received.new.net.terms c.in_ok-i.ensures.grows c.in_ok-t.ensures.grows) c.requires.may.guard
+
+pub result_stored_at-bounded-requires-clause-has : goal.result_stored_at-bounded-requires-clause-has
+result_stored_at-bounded-requires-clause-has t c = c.in_ok-t.ensures.grows.kept c.in_ok-i.i c.in_ok-i.ensures.has
+
+pub result_stored_at-put_at-requires-clause-guard : goal.result_stored_at-put_at-requires-clause-guard
+result_stored_at-put_at-requires-clause-guard t c =
+    let target = c.args.target.now in
+    let tests = bounded_grows c.received.new.net c.bounded.new.net target.bounds c.in_ok-i.i c.args.index.now.ty c.slot_length-count.result c.args.guard c.in_ok-bounded.ensures in
+    guard_grows c.args.net.now.terms c.bounded.new.net.terms c.args.guard (grows_then c.args.net.now.terms c.received.new.net.terms c.bounded.new.net.terms (grows_then c.args.net.now.terms c.value.new.net.terms c.received.new.net.terms c.in_ok-i.ensures.grows c.in_ok-t.ensures.grows) tests) c.requires.may.guard
+
+pub result_stored_at-put_at-requires-clause-has : goal.result_stored_at-put_at-requires-clause-has
+result_stored_at-put_at-requires-clause-has t c =
+    let target = c.args.target.now in
+    let tests = bounded_grows c.received.new.net c.bounded.new.net target.bounds c.in_ok-i.i c.args.index.now.ty c.slot_length-count.result c.args.guard c.in_ok-bounded.ensures in
+    tests.kept c.in_ok-i.i (c.in_ok-t.ensures.grows.kept c.in_ok-i.i c.in_ok-i.ensures.has)
+
+pub result_stored_at-put_at-requires-clause-value : goal.result_stored_at-put_at-requires-clause-value
+result_stored_at-put_at-requires-clause-value t c =
+    let target = c.args.target.now in
+    let tests = bounded_grows c.received.new.net c.bounded.new.net target.bounds c.in_ok-i.i c.args.index.now.ty c.slot_length-count.result c.args.guard c.in_ok-bounded.ensures in
+    tests.kept c.in_ok-t.t c.in_ok-t.ensures.has
+
+pub result_stored_at-put_at-requires-clause-count : goal.result_stored_at-put_at-requires-clause-count
+result_stored_at-put_at-requires-clause-count t c =
+    let a = c.args.at.now in
+    let M = c.requires.may in
+    let target = c.args.target.now in
+    let slot = target.slot in
+    array_terms a M.scope target c.args.index.now c.received.new.net c.received.new.state.objects M.program M.fits.0 c.requires.index c.in_ok-t.ensures.objects ∙ sym c.slot_length-count.ensures
+
+pub result_stored_at-put_at-requires-clause-may : goal.result_stored_at-put_at-requires-clause-may
+result_stored_at-put_at-requires-clause-may t c =
+    let a = c.args.at.now in
+    let M = c.requires.may in
+    let target = c.args.target.now in
+    let slot = target.slot in
+    let tests = bounded_grows c.received.new.net c.bounded.new.net target.bounds c.in_ok-i.i c.args.index.now.ty c.slot_length-count.result c.args.guard c.in_ok-bounded.ensures in
+    record {
+      program = a.pair.now.program;
+      stored = M.fits.0.stored;
+      there = there_in a M.scope slot M.program M.fits.0.object.visible M.fits.0.stored;
+      width = c.in_ok-t.ensures.width ∙ ap (λ (u : IntType). u.bits) c.slot_type-ty.ensures;
+      objects = objects_grow a c.received.new.net.terms c.bounded.new.net.terms c.received.new.state.objects tests c.in_ok-t.ensures.objects;
+    }
+
+pub result_stored_at-returns : goal.result_stored_at-returns
+result_stored_at-returns t c =
+    let a = c.args.at.now in
+    let target = c.args.target.now in
+    let call = c.in-Called.call in
+    let M = subst (λ (i : TInit). MayRun a c.args.net.now c.args.state.now c.args.guard (λ d. FitsTarget d target × FitsInit d false (stored_type a target) i)) c.in-Called.is c.requires.may in
+    let V = subst (λ (u : IntType). IsReceived a c.value.new.net c.received.new.net c.args.state.now c.received.new.state u call c.args.guard c.in_ok-t.t) c.slot_type-ty.ensures c.in_ok-t.ensures in
+    λ d inside fits_target fits.
+    subst (λ (i : TInit). IsDone a c.args.net.now c.put_at.new.net c.args.state.now (with_objects c.received.new.state c.put_at.new.objects) c.args.guard c.only.result d.locals d.locals (store_effect (setting_of a) (calls_in a) target i)) (sym c.in-Called.is)
+    (done_stored_at a c.args.net.now c.value.new.net c.received.new.net c.bounded.new.net c.put_at.new.net c.args.state.now c.received.new.state c.put_at.new.objects target c.args.index.now call c.args.guard c.in_ok-i.i c.in_ok-t.t c.slot_length-count.result c.only.result c.only.ensures c.slot_length-count.ensures c.requires.index M
+    c.in_ok-i.ensures V c.in_ok-bounded.ensures c.in_ok-put_at.ensures d inside fits_target (subst (FitsInit d false (stored_type a target)) c.in-Called.is fits))
