@@ -20,25 +20,38 @@ is_one [] = false
 is_one (e ∷ []) = true
 is_one (e ∷ e' ∷ es) = false
 
--- a function without a body, which gives any number of its result's type; it has no parameters
-abbrev pub opens : Option TStmt → Option IntType → Bool
-opens (Some body) result = false
-opens None None = false
-opens None (Some t) = true
+-- a function that can be called: it has a body, or gives any number of its result's type
+abbrev pub answers : Option TStmt → Option IntType → Bool
+answers (Some body) result = true
+answers None None = false
+answers None (Some t) = true
 
-abbrev pub is_open : Option Function → Bool
-is_open None = false
-is_open (Some fn) = opens fn.body fn.result
+abbrev pub is_answered : Option Function → Bool
+is_answered None = false
+is_answered (Some fn) = answers fn.body fn.result
 
--- a call of such a function
+-- a call that is a statement
 abbrev pub call_is_made : CProgram → TCall → Bool
-call_is_made p call = is_open (slice_get p.functions call.function)
+call_is_made p call = is_answered (slice_get p.functions call.function)
+
+-- a function with a result
+abbrev pub gives : Option IntType → Bool
+gives None = false
+gives (Some t) = true
+
+abbrev pub is_given : Option Function → Bool
+is_given None = false
+is_given (Some fn) = gives fn.result
+
+-- a call whose result is used
+abbrev pub result_is_made : CProgram → TCall → Bool
+result_is_made p call = is_given (slice_get p.functions call.function)
 
 -- what an object is set to, or what is returned
 abbrev pub init_is_made : CProgram → TInit → Bool
 init_is_made p Free = true
 init_is_made p (Values es) = is_one es
-init_is_made p (Called call) = call_is_made p call
+init_is_made p (Called call) = result_is_made p call
 
 -- what a `return` gives, if anything
 abbrev pub return_is_made : CProgram → Option TInit → Bool

@@ -3,42 +3,59 @@
 ghost use Rattle.std.specs.Prelude.{◌≡◌, nat_eq};
 ghost use Rattle.joint_ir.specs.declared.expr.Slot.TheVariants.{Local};
 ghost use Rattle.joint_ir.specs.Weights.{slot_length};
-ghost use Rattle.unwound_forms.specs.Made.{stmt_is_made, items_are_made, cases_are_made, option_is_made, loop_is_made, opens, call_is_made, init_is_made, return_is_made, array_is_made, declare_is_made, function_is_made, program_is_made};
+ghost use Rattle.unwound_forms.specs.Made.{stmt_is_made, items_are_made, cases_are_made, option_is_made, loop_is_made, answers, gives, call_is_made, result_is_made, init_is_made, return_is_made, array_is_made, declare_is_made, function_is_made, program_is_made};
 
 use joint_ir::{CProgram, Function, Group, SNode, Slot, TCall, TInit, TLoop, TStmt, lookup};
 use sqlite_items::Boxed;
 
-/// Whether a function has no body and gives a result.
-fn is_open(function: &Function) -> bool
-    ensures { result ≡ opens function.now.body function.now.result }
+/// Whether a function has a body, or gives a result.
+fn is_answered(function: &Function) -> bool
+    ensures { result ≡ answers function.now.body function.now.result }
 {
     match &function.body {
-        Some(_) => false,
-        None => match function.result {
-            None => false,
-            Some(_) => true,
-        },
+        Some(_) => true,
+        None => gives_result(function),
     }
 }
 
-/// Whether a call is of a function without a body.
+/// Whether a function gives a result.
+fn gives_result(function: &Function) -> bool
+    ensures { result ≡ gives function.now.result }
+{
+    match function.result {
+        None => false,
+        Some(_) => true,
+    }
+}
+
+/// Whether a call is of a function that can be called.
 fn is_call_made(program: &CProgram, call: &TCall) -> bool
     ensures { result ≡ call_is_made program.now call.now }
 {
     match program.functions.get(call.function as usize) {
         None => false,
-        Some(function) => is_open(function),
+        Some(function) => is_answered(function),
     }
 }
 
-/// Whether what an object is set to, or what is returned, is an expression's value or the result of such a call.
+/// Whether a call gives a result.
+fn is_result_made(program: &CProgram, call: &TCall) -> bool
+    ensures { result ≡ result_is_made program.now call.now }
+{
+    match program.functions.get(call.function as usize) {
+        None => false,
+        Some(function) => gives_result(function),
+    }
+}
+
+/// Whether what an object is set to, or what is returned, is an expression's value or the result of a call.
 fn is_init_made(program: &CProgram, init: &TInit) -> bool
     ensures { result ≡ init_is_made program.now init.now }
 {
     match init {
         TInit::Free => true,
         TInit::Values(es) => es.len() == 1,
-        TInit::Called(call) => is_call_made(program, call),
+        TInit::Called(call) => is_result_made(program, call),
     }
 }
 
