@@ -27,3 +27,4 @@ pub mod Gaining
 mod Shortening
 mod Places
 mod Restarts
+pub mod Knowing

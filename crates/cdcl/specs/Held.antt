@@ -2,7 +2,8 @@
 use Rattle.std.specs.Prelude.{◌≡◌, ℕ, ◌<◌, ◌≤◌, true, List, length}
 use Rattle.std.specs.Option.{IsSomeAnd, ForSome}
 use Rattle.clause_arena.specs.declared.ClauseId.{ClauseId}
-use Rattle.clause_arena.specs.Clause.{Clause, Clauses, clause_at, is_same}
+use Rattle.clause_arena.specs.declared.Lit.{Lit}
+use Rattle.clause_arena.specs.Clause.{Clause, Clauses, clause_at, has, is_same}
 use Rattle.res_log.specs.declared.ChainStep.{ChainStep}
 use Rattle.res_log.specs.Log.{chain}
 use Rattle.cdcl.specs.declared.trail.Trail.{Trail}
@@ -26,6 +27,7 @@ pub record Spreads (arena : Clauses) (old new : Trail) : Type 0 where
   pub kept : IsKept arena new
   pub vars : vars_of new ≡ vars_of old
   pub longer : length old.lits.items ≤ length new.lits.items
+  pub grown : (l : Lit) → has old.lits.items l ≡ true → has new.lits.items l ≡ true
 
 -- at least one step leads from the conflict's clause to the clause
 abbrev pub IsChainOf : Clauses → ClauseId → List ChainStep → Clause → Type 0

@@ -1,13 +1,13 @@
 -- Which variable a chooser picks.
-use Rattle.std.specs.Prelude.{◌≡◌, ℕ, ◌<◌, ◌⊎◌, List, length, slice_index}
+use Rattle.std.specs.Prelude.{◌≡◌, ℕ, ◌<◌, ◌⊎◌, Bool, true, List, length, slice_index}
 
 -- the variable has no value
 abbrev pub IsFreeIn : List ℕ → ℕ → Type 0
 IsFreeIn values v = (v < length values) × (slice_index values v ≡ 0)
 
--- the first of two variables has the greater number, or the same one and is lower
-abbrev pub IsBetter : List ℕ → ℕ → ℕ → Type 0
-IsBetter numbers v w = (slice_index numbers w < slice_index numbers v) ⊎ ((slice_index numbers w ≡ slice_index numbers v) × (v < w))
+-- each free variable is known
+abbrev pub AreKnown : (ℕ → Bool) → List ℕ → Type 0
+AreKnown knows values = (v : ℕ) → IsFreeIn values v → knows v ≡ true
 
 -- the variable is free, and comes before each other one that is
 abbrev pub IsFirstFree : (ℕ → ℕ → Type 0) → List ℕ → ℕ → Type 0

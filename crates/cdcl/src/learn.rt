@@ -1,7 +1,8 @@
 //! Derived clauses are stored and logged, and the trail goes back.
 
 ghost use Rattle.std.specs.Prelude.{◌≡◌, ◌<◌, ◌≤◌, ◌+◌, ◌++◌, ◌∷◌, [], ℕ, true, false, length, take, slice_index_or, Option, Some, None, MatchOption, IfOk, OnOk};
-ghost use Rattle.clause_arena.specs.Clause.{has, is_below, clause_at};
+ghost use Rattle.clause_arena.specs.Clause.{Clause, has, is_below, clause_at};
+ghost use Rattle.cdcl.specs.Pick.{AreKnown};
 ghost use Rattle.clause_arena.specs.declared.ClauseId.{ClauseId};
 ghost use Rattle.clause_arena.specs.declared.Lit.{Lit as TrueLit};
 ghost use Rattle.res_log.specs.Partial.{IsAsserting, is_false, is_free, is_forced, is_quiet, is_open};
@@ -14,6 +15,8 @@ ghost use Rattle.cdcl.specs.Watching.{IsWatching, HasNewest, IsBefore};
 ghost use Rattle.clause_arena.specs.Arena.{MOST_CLAUSES};
 
 use crate::analyze::{resolve_back, resolve_to_empty};
+use crate::chooser::Chooser;
+use crate::going_back::go_back;
 use crate::shorten::shorten;
 use crate::trail::{Trail, negated};
 use crate::watch::{Pair, Watches};
@@ -111,6 +114,7 @@ pub fn learn_reserved(
     log: &mut Log,
     trail: &mut Trail,
     watches: &mut Watches,
+    chooser: &mut Box<dyn Chooser>,
     conflict: ClauseId,
     start: usize,
 ) -> Result<ClauseId, AllocError>
@@ -122,11 +126,16 @@ pub fn learn_reserved(
     requires watching { IsWatching arena.old.clauses trail.old watches.old }
     requires last { IsLastDecision (reasons_of trail.old) start }
     requires conflict { IsConflict arena.old.clauses trail.old.lits.items conflict }
+    requires ready { ready_for chooser.old ≡ vars_of trail.old }
+    requires known { AreKnown (knows chooser.old) trail.old.values.items }
     ensures learned { OnOk result (IsLearned (vars_of trail.old) arena.old.clauses log.old arena.new.clauses log.new) }
     ensures next { IfOk result (λ id. id.0 ≡ length arena.old.clauses) }
     ensures kept { OnOk result (IsKept arena.new.clauses trail.new) }
     ensures watching { OnOk result (IsWatching arena.new.clauses trail.new watches.new) }
     ensures vars { OnOk result (vars_of trail.new ≡ vars_of trail.old) }
+    ensures ready { ready_for chooser.new ≡ ready_for chooser.old }
+    ensures known { OnOk result (AreKnown (knows chooser.new) trail.new.values.items) }
+    ensures hears { (c : Clause) → hears chooser.new c ≡ hears chooser.old c }
     ensures clauses { Keeps arena.old.clauses arena.new.clauses }
     ensures bounded { length arena.new.clauses ≤ length arena.old.clauses + 1 }
 {
@@ -134,7 +143,7 @@ pub fn learn_reserved(
     let derived = resolve_back(alloc, arena, trail, start, conflict, &mut steps)?;
     let learned = shorten(alloc, arena, trail, start, conflict, derived, &mut steps)?;
     let level = level_end(trail, learned.as_slice(), start);
-    trail.back_to(level.end);
+    go_back(trail, chooser, level.end);
     let id = arena.push_reserved(learned.as_slice());
     log.append(id, conflict, &steps)?;
     let first = asserted(trail, learned.as_slice());
@@ -152,6 +161,7 @@ pub fn learn(
     log: &mut Log,
     trail: &mut Trail,
     watches: &mut Watches,
+    chooser: &mut Box<dyn Chooser>,
     conflict: ClauseId,
     start: usize,
 ) -> Result<ClauseId, AllocError>
@@ -162,16 +172,21 @@ pub fn learn(
     requires watching { IsWatching arena.old.clauses trail.old watches.old }
     requires last { IsLastDecision (reasons_of trail.old) start }
     requires conflict { IsConflict arena.old.clauses trail.old.lits.items conflict }
+    requires ready { ready_for chooser.old ≡ vars_of trail.old }
+    requires known { AreKnown (knows chooser.old) trail.old.values.items }
     ensures learned { OnOk result (IsLearned (vars_of trail.old) arena.old.clauses log.old arena.new.clauses log.new) }
     ensures next { IfOk result (λ id. id.0 ≡ length arena.old.clauses) }
     ensures kept { OnOk result (IsKept arena.new.clauses trail.new) }
     ensures watching { OnOk result (IsWatching arena.new.clauses trail.new watches.new) }
     ensures vars { OnOk result (vars_of trail.new ≡ vars_of trail.old) }
+    ensures ready { ready_for chooser.new ≡ ready_for chooser.old }
+    ensures known { OnOk result (AreKnown (knows chooser.new) trail.new.values.items) }
+    ensures hears { (c : Clause) → hears chooser.new c ≡ hears chooser.old c }
     ensures clauses { Keeps arena.old.clauses arena.new.clauses }
     ensures bounded { length arena.new.clauses ≤ length arena.old.clauses + 1 }
 {
     arena.reserve(1, trail.vars())?;
-    learn_reserved(alloc, arena, log, trail, watches, conflict, start)
+    learn_reserved(alloc, arena, log, trail, watches, chooser, conflict, start)
 }
 
 /// Logs the empty clause from a conflict at level 0.

@@ -40,6 +40,9 @@ mod spares;
 // The new clause is stored and logged, and the trail goes back.
 mod learn;
 
+// The trail goes back, and the chooser hears of it.
+mod going_back;
+
 // The search begins anew from time to time.
 mod restart;
 

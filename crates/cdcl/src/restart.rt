@@ -4,7 +4,10 @@ ghost use Rattle.std.specs.Prelude.{◌≡◌, ◌<◌, length, slice_index_or, 
 ghost use Rattle.clause_arena.specs.declared.ClauseId.{ClauseId as TrueId};
 ghost use Rattle.cdcl.specs.Held.{IsKept, vars_of, reasons_of};
 ghost use Rattle.cdcl.specs.Watching.{IsWatching};
+ghost use Rattle.cdcl.specs.Pick.{AreKnown};
 
+use crate::chooser::Chooser;
+use crate::going_back::go_back;
 use crate::trail::Trail;
 use crate::watch::Watches;
 use clause_arena::ClauseArena;
@@ -62,18 +65,32 @@ pub fn first_decision(trail: &Trail) -> Option<usize>
     None
 }
 
-/// Takes back what was decided, and what followed.
-pub fn restart(arena: &ClauseArena, trail: &mut Trail, watches: &mut Watches)
+/// Takes back what was decided, and what followed, where a stretch is over.
+pub fn restart(
+    arena: &ClauseArena,
+    trail: &mut Trail,
+    watches: &mut Watches,
+    chooser: &mut Box<dyn Chooser>,
+    pace: &mut Pace,
+)
     requires kept { IsKept arena.now.clauses trail.old }
     requires watching { IsWatching arena.now.clauses trail.old watches.old }
+    requires ready { ready_for chooser.old ≡ vars_of trail.old }
+    requires known { AreKnown (knows chooser.old) trail.old.values.items }
     ensures kept { IsKept arena.now.clauses trail.new }
     ensures watching { IsWatching arena.now.clauses trail.new watches.new }
     ensures vars { vars_of trail.new ≡ vars_of trail.old }
+    ensures ready { ready_for chooser.new ≡ ready_for chooser.old }
+    ensures known { AreKnown (knows chooser.new) trail.new.values.items }
+    ensures heard { heard chooser.new ≡ heard chooser.old }
 {
+    if !pace.is_over() {
+        return;
+    }
     match first_decision(trail) {
         None => {}
         Some(end) => {
-            trail.back_to(end);
+            go_back(trail, chooser, end);
             watches.set_head(end);
         }
     }

@@ -1,7 +1,8 @@
 //! One turn of the search.
 
-ghost use Rattle.std.specs.Prelude.{◌≡◌, ◌<◌, ◌≤◌, ◌+◌, ℕ, true, false, length, MatchOption, IfOk};
-ghost use Rattle.clause_arena.specs.Clause.{has, lit, is_below};
+ghost use Rattle.std.specs.Prelude.{◌≡◌, ◌<◌, ◌≤◌, ◌+◌, ℕ, true, false, length, Some, MatchOption, IfOk};
+ghost use Rattle.clause_arena.specs.Clause.{Clause, clause_at, has, lit, is_below};
+ghost use Rattle.cdcl.specs.Pick.{AreKnown};
 ghost use Rattle.res_log.specs.Partial.{is_free, is_open};
 ghost use Rattle.cdcl.specs.Trail.{AllClauses};
 ghost use Rattle.cdcl.specs.Held.{IsKept, vars_of};
@@ -67,8 +68,10 @@ pub fn lowest_free(trail: &Trail) -> Option<u32>
 pub fn next_decision(chooser: &mut Box<dyn Chooser>, trail: &Trail) -> Option<u32>
     requires vars { vars_of trail.now < 4294967296 }
     requires ready { ready_for chooser.old ≡ vars_of trail.now }
+    requires known { AreKnown (knows chooser.old) trail.now.values.items }
     ensures free { MatchOption result ((v : ℕ) → v < vars_of trail.now → is_free trail.now.lits.items (lit true v) ≡ false) (λ v. (v < vars_of trail.now) × (is_free trail.now.lits.items (lit true v) ≡ true)) }
     ensures ready { ready_for chooser.new ≡ ready_for chooser.old }
+    ensures known { AreKnown (knows chooser.new) trail.now.values.items }
 {
     let pick = chooser.pick(trail.values.as_slice());
     if pick < trail.vars() && trail.is_free(pick) {
@@ -80,7 +83,9 @@ pub fn next_decision(chooser: &mut Box<dyn Chooser>, trail: &Trail) -> Option<u3
 /// Tells the chooser of a clause that was derived.
 pub fn report(chooser: &mut Box<dyn Chooser>, lits: &[Lit])
     requires { is_below (ready_for chooser.old) lits.now ≡ true }
-    ensures { ready_for chooser.new ≡ ready_for chooser.old }
+    ensures ready { ready_for chooser.new ≡ ready_for chooser.old }
+    ensures known { (v : ℕ) → knows chooser.old v ≡ true → knows chooser.new v ≡ true }
+    ensures heard { heard chooser.new ≡ hears chooser.old lits.now }
 {
     chooser.learned(lits);
 }
@@ -105,9 +110,13 @@ pub fn end_conflict(
     requires watching { IsWatching arena.old.clauses trail.old watches.old }
     requires conflict { IsConflict arena.old.clauses trail.old.lits.items conflict }
     requires ready { ready_for chooser.old ≡ vars_of trail.old }
+    requires known { AreKnown (knows chooser.old) trail.old.values.items }
     ensures outcome { IfOk result (IsOutcome arena.old.clauses log.old trail.old arena.new.clauses log.new trail.new budget) }
     ensures watching { IfOk result (OnAgain (IsWatching arena.new.clauses trail.new watches.new)) }
     ensures ready { ready_for chooser.new ≡ ready_for chooser.old }
+    ensures known { IfOk result (OnAgain (AreKnown (knows chooser.new) trail.new.values.items)) }
+    // The chooser heard of the clause that was derived.
+    ensures told { IfOk result (OnAgain ((c : Clause) → clause_at arena.new.clauses (length arena.old.clauses) ≡ Some c → heard chooser.new ≡ hears chooser.old c)) }
     ensures clauses { Keeps arena.old.clauses arena.new.clauses }
     ensures bounded { length arena.new.clauses ≤ length arena.old.clauses + 1 }
 {
@@ -118,14 +127,12 @@ pub fn end_conflict(
             return Ok(Outcome::Refuted);
         }
     };
-    let id = learn(alloc, arena, log, trail, watches, conflict, start)?;
+    let id = learn(alloc, arena, log, trail, watches, chooser, conflict, start)?;
     if log.len() == budget {
         return Ok(Outcome::Spent);
     }
     report(chooser, arena.lits(id));
-    if pace.is_over() {
-        restart(arena, trail, watches);
-    }
+    restart(arena, trail, watches, chooser, pace);
     Ok(Outcome::Again)
 }
 
@@ -148,9 +155,13 @@ pub fn turn(
     requires kept { IsKept arena.old.clauses trail.old }
     requires watching { IsWatching arena.old.clauses trail.old watches.old }
     requires ready { ready_for chooser.old ≡ vars_of trail.old }
+    requires known { AreKnown (knows chooser.old) trail.old.values.items }
     ensures turned { IfOk result (IsTurn arena.old.clauses log.old trail.old arena.new.clauses log.new trail.new budget) }
     ensures watching { IfOk result (OnAgain (IsWatching arena.new.clauses trail.new watches.new)) }
     ensures ready { ready_for chooser.new ≡ ready_for chooser.old }
+    ensures known { IfOk result (OnAgain (AreKnown (knows chooser.new) trail.new.values.items)) }
+    // The chooser heard of the clause that was derived.
+    ensures told { IfOk result (OnAgain ((c : Clause) → clause_at arena.new.clauses (length arena.old.clauses) ≡ Some c → heard chooser.new ≡ hears chooser.old c)) }
     ensures clauses { Keeps arena.old.clauses arena.new.clauses }
     ensures bounded { length arena.new.clauses ≤ length arena.old.clauses + 1 }
 {

@@ -1,7 +1,10 @@
 //! Choosers that pick without a look at the values.
 
-ghost use Rattle.std.specs.Prelude.{◌≡◌, true, length, OnOk};
-ghost use Rattle.clause_arena.specs.Clause.{is_below};
+ghost use Rattle.std.specs.Prelude.{◌≡◌, ◌<◌, ℕ, true, [], length, OnOk};
+ghost use Rattle.clause_arena.specs.Clause.{Clause, has, is_below};
+ghost use Rattle.clause_arena.specs.declared.Lit.{Lit as TrueLit};
+ghost use Rattle.cdcl.specs.Numbers.{numbers};
+ghost use Rattle.cdcl.specs.Pick.{IsFreeIn};
 
 use cdcl::Chooser;
 use clause_arena::Lit;
@@ -23,6 +26,9 @@ impl Always {
 
 impl Chooser for Always {
     ghost ready_for = { λ c. c.vars };
+    ghost knows = { λ c v. true };
+    ghost heard = { λ c. numbers [] 0 };
+    ghost hears = { λ c x. numbers [] 0 };
 
     fn ready(&mut self, vars: u32) -> Result<(), AllocError> {
         self.vars = vars;
@@ -30,6 +36,8 @@ impl Chooser for Always {
     }
 
     fn learned(&mut self, _lits: &[Lit]) {}
+
+    fn freed(&mut self, _lits: &[Lit]) {}
 
     fn pick(&mut self, _values: &[u8]) -> u32 {
         self.pick
@@ -55,6 +63,9 @@ impl Downwards {
 
 impl Chooser for Downwards {
     ghost ready_for = { λ c. c.vars };
+    ghost knows = { λ c v. true };
+    ghost heard = { λ c. numbers [] 0 };
+    ghost hears = { λ c x. numbers [] 0 };
 
     fn ready(&mut self, vars: u32) -> Result<(), AllocError> {
         self.vars = vars;
@@ -62,6 +73,8 @@ impl Chooser for Downwards {
     }
 
     fn learned(&mut self, _lits: &[Lit]) {}
+
+    fn freed(&mut self, _lits: &[Lit]) {}
 
     fn pick(&mut self, _values: &[u8]) -> u32 {
         let pick = self.next;
@@ -86,6 +99,9 @@ impl Recording {
 
 impl Chooser for Recording {
     ghost ready_for = { λ c. c.vars };
+    ghost knows = { λ c v. true };
+    ghost heard = { λ c. numbers [] 0 };
+    ghost hears = { λ c x. numbers [] 0 };
 
     fn ready(&mut self, vars: u32) -> Result<(), AllocError> {
         self.vars = vars;
@@ -93,6 +109,8 @@ impl Chooser for Recording {
     }
 
     fn learned(&mut self, _lits: &[Lit]) {}
+
+    fn freed(&mut self, _lits: &[Lit]) {}
 
     fn pick(&mut self, values: &[u8]) -> u32 {
         if values.is_empty() {

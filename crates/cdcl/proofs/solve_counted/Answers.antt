@@ -1,9 +1,11 @@
-use Rattle.std.proofs.Common.{refl, subst, ◌∙◌}
+use Rattle.std.proofs.Common.{ℕ, refl, subst, ◌∙◌, arith}
 use Rattle.cdcl.specs.declared.turn.Outcome.{Outcome}
 use Rattle.cdcl.specs.Turn.{IsTurn, OnAgain}
 use Rattle.cdcl.specs.Watching.{IsWatching}
+use Rattle.cdcl.specs.Pick.{AreKnown}
 use Rattle.cdcl.proofs.Keeping.{keeps-same}
-use Rattle.cdcl.proofs.Solves.{searching-model}
+use Rattle.cdcl.specs.Work.{IsConflict}
+use Rattle.cdcl.proofs.Solves.{searching-model, settled-none}
 use Rattle.cdcl.proofs.Answered.{open-from, searching-begun, refuted-first, refutation-is, searching-turn, turn-smaller, spent-turn, never-spent-turn, keeps-turn}
 use Rattle.std.proofs.lemmas.Bool.{both_ways}
 use Rattle.cdcl.proofs.solve_counted.Goals as goal
@@ -37,12 +39,23 @@ search-smaller g c =
     turn-smaller c.args.arena.now.clauses c.search.arena.clauses c.turn.new.arena.clauses c.search.log c.turn.new.log c.args.vars c.args.budget c.search.trail c.turn.new.trail
     (subst (λ (o : Outcome). IsTurn c.search.arena.clauses c.search.log c.search.trail c.turn.new.arena.clauses c.turn.new.log c.turn.new.trail c.args.budget o) c.in-Again.is c.in_ok-turn.ensures.turned) c.search.invariant.0
 
+pub search-init : goal.search-init
+search-init g c = (
+  searching-begun c.args.arena.now.clauses c.args.vars c.args.budget c.in_ok-trail.trail c.watch_all.new.trail c.new-log.result c.requires.below c.requires.some
+      (open-from c.args.arena.now.clauses (λ w. both_ways _ c.if-has_empty_clause.false (c.has_empty_clause.ensures.1 w)))
+      c.new-log.ensures c.in_ok-trail.ensures.empty c.in_ok-trail.ensures.vars c.in_ok-conflict.ensures.spread,
+  c.in_ok-ready.ensures.0,
+  settled-none (IsWatching c.args.arena.now.clauses c.watch_all.new.trail c.watch_all.new.watches) (IsConflict c.args.arena.now.clauses c.watch_all.new.trail.lits.items) c.in_ok-conflict.field-0 c.in-None.is c.in_ok-conflict.ensures.watching,
+  λ v e. c.in_ok-ready.ensures.1 v (omega (arith, e.0, c.in_ok-conflict.ensures.spread.vars, c.in_ok-trail.ensures.vars)),
+)
+
 pub search-preserved : goal.search-preserved
 search-preserved g c = (
   searching-turn c.args.arena.now.clauses c.search.arena.clauses c.turn.new.arena.clauses c.search.log c.turn.new.log c.args.vars c.args.budget c.search.trail c.turn.new.trail
       (subst (λ (o : Outcome). IsTurn c.search.arena.clauses c.search.log c.search.trail c.turn.new.arena.clauses c.turn.new.log c.turn.new.trail c.args.budget o) c.in-Again.is c.in_ok-turn.ensures.turned) c.search.invariant.0,
   c.turn.ensures.ready ∙ c.search.invariant.1,
   subst (OnAgain (IsWatching c.turn.new.arena.clauses c.turn.new.trail c.turn.new.watches)) c.in-Again.is c.in_ok-turn.ensures.watching,
+  subst (OnAgain (AreKnown (λ (v : ℕ). (goal.Chooser-dyn g (c.turn.new.chooser.vtable, c.turn.new.chooser.value)).knows c.turn.new.chooser.value v) c.turn.new.trail.values.items)) c.in-Again.is c.in_ok-turn.ensures.known,
 )
 
 pub returns-in-Satisfied-clause-answer : goal.returns-in-Satisfied-clause-answer

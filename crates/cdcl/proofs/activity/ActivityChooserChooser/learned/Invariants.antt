@@ -1,9 +1,10 @@
-use Rattle.std.proofs.Common.{◌≡◌, take, vec_len}
+use Rattle.std.proofs.Common.{◌≡◌, length, take}
 use Rattle.cdcl.specs.Numbers.{numbers, all_gained}
 use Rattle.cdcl.proofs.activity.ActivityChooserChooser.learned.Given as goal
 
 abbrev pub invariant-loop-l : goal.invariant-loop-l
 invariant-loop-l l = record {
-  len : vec_len l.self.activities ≡ vec_len l.initial.self.activities;
-  heard : numbers l.self.activities.items l.self.step ≡ all_gained (numbers l.initial.self.activities.items l.initial.self.step) (take l.l-index l.lits);
+  len : length l.self.ranks.numbers.items ≡ length l.initial.self.ranks.numbers.items;
+  heard : numbers l.self.ranks.numbers.items l.self.step ≡ all_gained (numbers l.initial.self.ranks.numbers.items l.initial.self.step) (take l.l-index l.lits);
+  same : l.self.ranks.present.items ≡ l.initial.self.ranks.present.items;
 }

@@ -1,6 +1,15 @@
-use Rattle.std.proofs.Common.{MatchOption}
-use Rattle.cdcl.proofs.Picks.{NoneSoFar, BestSoFar}
+use Rattle.std.proofs.Common.{◌≡◌, ℕ}
+use Rattle.variable_ranks.specs.Best.{IsIn}
+use Rattle.variable_ranks.proofs.Counts.{count}
+use Rattle.cdcl.specs.Pick.{IsFreeIn}
 use Rattle.cdcl.proofs.activity.ActivityChooserChooser.pick.Given as goal
 
-abbrev pub invariant-loop-var : goal.invariant-loop-var
-invariant-loop-var l = MatchOption l.best (NoneSoFar l.values l.var) (BestSoFar l.self.activities.items l.values l.var)
+abbrev pub invariant-taken : goal.invariant-taken
+invariant-taken l = record {
+  numbers : l.self.ranks.numbers.items ≡ l.initial.self.ranks.numbers.items;
+  step : l.self.step ≡ l.initial.self.step;
+  known : (v : ℕ) → IsFreeIn l.values v → IsIn l.self.ranks.present.items v;
+}
+
+abbrev pub decreases-taken : goal.decreases-taken
+decreases-taken l = count l.self.ranks.present.items
