@@ -5,7 +5,7 @@ pub case_one : {E P R Q : Type 0} (h : E → Q) (f : P → R) (g : R → Q) (e w
     e ≡ whole → got ≡ p → x ≡ f got → r ≡ g x → h whole ≡ g (f p) → r ≡ h e
 case_one h f g e whole p got x r is is_p hx hr eq = hr ∙ ap g (hx ∙ ap f is_p) ∙ sym eq ∙ ap h (sym is)
 
-pub case_two : {E P R P2 R2 Q : Type 0} (h : E → Q) (f : P → R) (f2 : P2 → R2) (g : R → R2 → Q) (e whole : E) (p got : P) (q more : P2) (x : R) (y : R2) (r : Q) →
+pub case_two : {E P R S T Q : Type 0} (h : E → Q) (f : P → R) (f2 : S → T) (g : R → T → Q) (e whole : E) (p got : P) (q more : S) (x : R) (y : T) (r : Q) →
     e ≡ whole → got ≡ p → more ≡ q → x ≡ f got → y ≡ f2 more → r ≡ g x y → h whole ≡ g (f p) (f2 q) → r ≡ h e
 case_two h f f2 g e whole p got q more x y r is is_p is_q hx hy hr eq =
     hr ∙ ap (λ v. g v y) (hx ∙ ap f is_p) ∙ ap (λ v. g (f p) v) (hy ∙ ap f2 is_q) ∙ sym eq ∙ ap h (sym is)

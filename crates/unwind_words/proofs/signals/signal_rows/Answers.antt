@@ -25,9 +25,9 @@ loop-signal-preserved c =
     let ss = c.args.signals.now in
     let k = c.loop-signal.signal-index in
     let s = c.signal-item.result in
-    let R0 = c.args.registers.now in
-    let I0 = c.args.inputs.now in
-    let W0 = c.args.wires.now in
+    let Ra = c.args.registers.now in
+    let Ia = c.args.inputs.now in
+    let Wa = c.args.wires.now in
     let R = c.loop-signal.registers.now in
     let I = c.loop-signal.inputs.now in
     let W = c.loop-signal.wires.now in
@@ -50,25 +50,25 @@ loop-signal-preserved c =
           let Z = w.in_ok-zero-in-Clock.ensures in
           let zero = w.in_ok-zero-in-Clock.zero in
           let T = taken_clock n2.terms s (drop (k + 1) ss) fits R I W (have_kept n1 n2 (s ∷ drop (k + 1) ss) R I W Z.adds have) zero.term w.in-Clock.is (sized_is n2.terms zero 1 Z.has Z.width) Z.value in
-          taken_as n0 n2 c.match-signal.net ss (k + 1) R0 I0 W0 (rows ++ (zero.term ∷ []) ∷ []) all R I W R' I' W' w.net-is (ap items w.rows-is ∙ w.in_ok-push_row-in-Clock.ensures) (ap now w.registers-is) (ap now w.inputs-is) (ap now w.wires-is)
-          (one_taken n0 n1 n2 ss k s R0 I0 W0 rows R I W R I W (zero.term ∷ []) lt at A Z.adds T)
+          taken_as n0 n2 c.match-signal.net ss (k + 1) Ra Ia Wa (rows ++ (zero.term ∷ []) ∷ []) all R I W R' I' W' w.net-is (ap items w.rows-is ∙ w.in_ok-push_row-in-Clock.ensures) (ap now w.registers-is) (ap now w.inputs-is) (ap now w.wires-is)
+          (one_taken n0 n1 n2 ss k s Ra Ia Wa rows R I W R I W (zero.term ∷ []) lt at A Z.adds T)
       | in-Input+in_ok-push_row-in-Input w ↦
           let T = taken_input n1.terms s (drop (k + 1) ss) fits R I W have w.in-Input.is in
-          taken_as n0 n1 c.match-signal.net ss (k + 1) R0 I0 W0 (rows ++ take 1 I ∷ []) all R (drop 1 I) W R' I' W' w.net-is
+          taken_as n0 n1 c.match-signal.net ss (k + 1) Ra Ia Wa (rows ++ take 1 I ∷ []) all R (drop 1 I) W R' I' W' w.net-is
           (ap items w.rows-is ∙ w.in_ok-push_row-in-Input.ensures ∙ ap (λ l. rows ++ l ∷ []) w.first.ensures) (ap now w.registers-is) (ap now w.inputs-is ∙ w.rest-inputs.ensures) (ap now w.wires-is)
-          (one_taken n0 n1 n1 ss k s R0 I0 W0 rows R I W R (drop 1 I) W (take 1 I) lt at A same T)
+          (one_taken n0 n1 n1 ss k s Ra Ia Wa rows R I W R (drop 1 I) W (take 1 I) lt at A same T)
       | in-Wire+in_ok-push_row-in-Wire w ↦
           let T = taken_wire n1.terms s (drop (k + 1) ss) fits R I W have w.in-Wire.is in
-          taken_as n0 n1 c.match-signal.net ss (k + 1) R0 I0 W0 (rows ++ take 1 W ∷ []) all R I (drop 1 W) R' I' W' w.net-is
+          taken_as n0 n1 c.match-signal.net ss (k + 1) Ra Ia Wa (rows ++ take 1 W ∷ []) all R I (drop 1 W) R' I' W' w.net-is
           (ap items w.rows-is ∙ w.in_ok-push_row-in-Wire.ensures ∙ ap (λ l. rows ++ l ∷ []) w.first-in-Wire.ensures) (ap now w.registers-is) (ap now w.inputs-is) (ap now w.wires-is ∙ w.rest-wires.ensures)
-          (one_taken n0 n1 n1 ss k s R0 I0 W0 rows R I W R I (drop 1 W) (take 1 W) lt at A same T)
+          (one_taken n0 n1 n1 ss k s Ra Ia Wa rows R I W R I (drop 1 W) (take 1 W) lt at A same T)
       | in-Register+in_ok-push_row-in-Register w ↦
           let T = taken_register n1.terms s (drop (k + 1) ss) fits R I W have w.in-Register.is in
           let n = element_count s.words in
           let e = w.word_count-count.ensures.value in
-          taken_as n0 n1 c.match-signal.net ss (k + 1) R0 I0 W0 (rows ++ take n R ∷ []) all (drop n R) I W R' I' W' w.net-is
+          taken_as n0 n1 c.match-signal.net ss (k + 1) Ra Ia Wa (rows ++ take n R ∷ []) all (drop n R) I W R' I' W' w.net-is
           (ap items w.rows-is ∙ w.in_ok-push_row-in-Register.ensures ∙ ap (λ l. rows ++ l ∷ []) (w.first-in-Register.ensures ∙ ap (λ m. take m R) e)) (ap now w.registers-is ∙ w.rest-registers.ensures ∙ ap (λ m. drop m R) e) (ap now w.inputs-is) (ap now w.wires-is)
-          (one_taken n0 n1 n1 ss k s R0 I0 W0 rows R I W (drop n R) I W (take n R) lt at A same T)
+          (one_taken n0 n1 n1 ss k s Ra Ia Wa rows R I W (drop n R) I W (take n R) lt at A same T)
     ]
 
 pub returns : goal.returns
