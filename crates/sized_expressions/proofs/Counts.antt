@@ -6,7 +6,7 @@ use Rattle.flat_tree.specs.Operators.{Form}
 use Rattle.flat_tree.specs.Values.{site_at, numbers_of}
 use Rattle.operand_contexts.specs.Contexts.{has_site}
 use Rattle.sized_expressions.specs.Operated.{own_site}
-use Rattle.sized_expressions.specs.Sized.{most_terms}
+use Rattle.row_terms.specs.Rows.{most_terms}
 use Rattle.src_text.specs.declared.refusal.Place.{Place}
 
 pub most_leaf : (w n k : ℕ) → 4 ≤ w → 1 ≤ n → k ≤ 31 → k ≤ most_terms w n

@@ -10,7 +10,8 @@ use Rattle.site_terms.specs.Sizes.{Makes}
 use Rattle.site_terms.proofs.Linking.{made_value, made_vars, of_adds, link, link_adds, loosen}
 use Rattle.sized_expressions.proofs.Counts.{most_one, most_two, most_three, most_same, behind, behind_is, next_number}
 use Rattle.sized_expressions.specs.Operated.{own_site, own_width, own_number, operated}
-use Rattle.sized_expressions.specs.Sized.{most_terms, world_in, IsSized}
+use Rattle.row_terms.specs.Rows.{most_terms}
+use Rattle.sized_expressions.specs.Sized.{world_in, IsSized}
 use Rattle.src_text.specs.declared.refusal.Place.{Place}
 use Rattle.term_steps.specs.Adds.{Adds}
 use Rattle.v_tree.specs.declared.expr.BinaryOp.{BinaryOp}

@@ -1,2 +1,3 @@
 pub mod Operated
+pub mod Rows
 pub mod Sized

@@ -1,11 +1,12 @@
 -- What a walk over a flat expression starts from, and what it adds: the term of its value at a width and a sign.
-use Rattle.std.specs.Prelude.{◌≡◌, ℕ, ◌+◌, ◌-◌, ◌*◌, ◌<◌, ◌≤◌, max, min, List, Bool, length, slice_index}
+use Rattle.std.specs.Prelude.{◌≡◌, ℕ, ◌+◌, ◌-◌, ◌*◌, ◌<◌, ◌≤◌, max, List, Bool, length, slice_index}
 use Rattle.bits_core.specs.Word.{IsWidth}
 use Rattle.flat_tree.specs.declared.design.FlatSignal.{FlatSignal}
 use Rattle.flat_tree.specs.declared.expr.FlatExpr.{FlatExpr}
 use Rattle.flat_tree.specs.Measures.{nodes_of, weight_of}
 use Rattle.flat_tree.specs.Values.{Shape, World, Meant, meant, sites_of}
 use Rattle.flat_values.specs.Fits.{Fits, IsSignal, shapes_of}
+use Rattle.row_terms.specs.Rows.{most_terms}
 use Rattle.site_terms.specs.Sizes.{Makes}
 use Rattle.word_eqs.specs.declared.term.TermId.{TermId}
 use Rattle.word_eqs.specs.Graph.{Graph, width_in, places, MOST_TERMS}
@@ -37,10 +38,6 @@ pub record MaySize (signals : List FlatSignal) (starts : List ℕ) (words : List
   pub width : IsWidth w
   pub few : length g.vars + length (sites_of (shapes_of signals) e w) < MOST_TERMS
   pub room : length g.terms + 32 * nodes_of (shapes_of signals) e ≤ MOST_TERMS
-
--- how many terms there may be, by a weight and a number of nodes: fewer than 8 times the one, and than 32 times the other
-abbrev pub most_terms : ℕ → ℕ → ℕ
-most_terms weight nodes = min (8 * weight) (32 * nodes) - 1
 
 -- t is the term of what is meant, at a width and a sign, in each view and for all numbers of the sites, which are the
 -- variables that were added; at most 8 times so much weight in gates

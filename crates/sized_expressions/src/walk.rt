@@ -1,7 +1,10 @@
 //! The walk over an expression.
 
 ghost use Rattle.std.specs.Prelude.{length, IfOk};
-ghost use Rattle.sized_expressions.specs.Sized.{MaySize, IsTermOf};
+ghost use Rattle.flat_values.specs.Fits.{shapes_of};
+ghost use Rattle.row_terms.specs.Rows.{AreJoined};
+ghost use Rattle.sized_expressions.specs.Rows.{MayJoin};
+ghost use Rattle.sized_expressions.specs.Sized.{MaySize, IsTermOf, world_in};
 ghost use Rattle.word_eqs.specs.Graph.{IsGraph};
 
 use crate::leaves::{number, word_at};
@@ -11,13 +14,14 @@ use flat_tree::{FlatExpr, FlatSignal};
 use flat_values::{LengthSign, own};
 use operand_contexts::{contexts, unary, unary_context};
 use operator_terms::branch;
+use row_terms::{beside, copies};
 use std::alloc::AllocError;
 use term_steps::resize;
 use word_eqs::{TermId, Terms};
 
 /// The term of an expression at a width and a sign that are handed down. `words` has the terms of the words of all signals, each
-/// signal's from its start on; the numbers of the sites are new variables, in the order of the text. Forms that aren't made
-/// yet end as want of memory does.
+/// signal's from its start on; the numbers of the sites are new variables, in the order of the text. Selects by an index aren't
+/// made yet: they end as want of memory does.
 #[cycle(sizing)]
 pub fn size(
     terms: &mut Terms,
@@ -80,8 +84,18 @@ pub fn size(
             let t = size(terms, signals, starts, words, a, at)?;
             Ok(t)
         }
-        FlatExpr::Concatenation(_, _) => Err(AllocError),
-        FlatExpr::Replication(_, _, _) => Err(AllocError),
+        FlatExpr::Concatenation(_, parts) => {
+            let x = row(terms, signals, starts, words, parts.as_slice())?;
+            let t = resize(terms, x, at.length, at.signed)?;
+            Ok(t)
+        }
+        FlatExpr::Replication(_, c, parts) => {
+            let x = row(terms, signals, starts, words, parts.as_slice())?;
+            let _ = terms.len();
+            let y = copies(terms, x, *c)?;
+            let t = resize(terms, y, at.length, at.signed)?;
+            Ok(t)
+        }
         FlatExpr::Signed(_, a) => {
             let a = a.get();
             let x = size(terms, signals, starts, words, a, own(signals, a))?;
@@ -94,5 +108,30 @@ pub fn size(
             let t = resize(terms, x, at.length, at.signed)?;
             Ok(t)
         }
+    }
+}
+
+/// The term of parts side by side, the first on the left.
+#[cycle(sizing)]
+fn row(
+    terms: &mut Terms,
+    signals: &[FlatSignal],
+    starts: &[u32],
+    words: &[TermId],
+    parts: &[FlatExpr],
+) -> Result<TermId, AllocError>
+    requires { MayJoin signals.now starts.now words.now terms.old parts.now }
+    ensures { IfOk result (λ t. AreJoined (shapes_of signals.now) (world_in starts.now words.now) parts.now terms.old terms.new t.0) }
+{
+    let mut sofar: Option<TermId> = None;
+    for e in parts {
+        let x = size(terms, signals, starts, words, e, own(signals, e))?;
+        let _ = terms.len();
+        let t = beside(terms, sofar, x)?;
+        sofar = Some(t);
+    }
+    match sofar {
+        Some(t) => Ok(t),
+        None => Err(AllocError),
     }
 }
