@@ -1,0 +1,8 @@
+//! The parts of signals that a target writes, from its left, and stores to them.
+//!
+//! Takes whole signals, parts with known ends and concatenations of them. Knows nothing of statements.
+#![tactic(auto)]
+
+mod targets;
+
+pub use targets::target_parts;
