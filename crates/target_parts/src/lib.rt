@@ -1,4 +1,4 @@
-//! The parts of signals that a target writes, from its left, and stores to them.
+//! The parts of signals that a target writes, from its left.
 //!
 //! Takes whole signals, parts with known ends and concatenations of them. Knows nothing of statements.
 #![tactic(auto)]
