@@ -26,8 +26,11 @@ impl Always {
 
 impl Chooser for Always {
     ghost ready_for = { λ c. c.vars };
+
     ghost knows = { λ c v. true };
+
     ghost heard = { λ c. numbers [] 0 };
+
     ghost hears = { λ c x. numbers [] 0 };
 
     fn ready(&mut self, vars: u32) -> Result<(), AllocError> {
@@ -63,8 +66,11 @@ impl Downwards {
 
 impl Chooser for Downwards {
     ghost ready_for = { λ c. c.vars };
+
     ghost knows = { λ c v. true };
+
     ghost heard = { λ c. numbers [] 0 };
+
     ghost hears = { λ c x. numbers [] 0 };
 
     fn ready(&mut self, vars: u32) -> Result<(), AllocError> {
@@ -99,8 +105,11 @@ impl Recording {
 
 impl Chooser for Recording {
     ghost ready_for = { λ c. c.vars };
+
     ghost knows = { λ c v. true };
+
     ghost heard = { λ c. numbers [] 0 };
+
     ghost hears = { λ c x. numbers [] 0 };
 
     fn ready(&mut self, vars: u32) -> Result<(), AllocError> {
