@@ -9,7 +9,7 @@ use Rattle.flat_tree.specs.Values.{Shape, sites_of}
 use Rattle.flat_language.proofs.Local.{flat_language}
 use Rattle.flat_values.specs.Fits.{IsTaken, shapes_of}
 use Rattle.site_terms.specs.Sizes.{Makes}
-use Rattle.sized_expressions.specs.Sized.{most_terms}
+use Rattle.row_terms.specs.Rows.{most_terms}
 use Rattle.view_rows.specs.Rows.{IsRow, view_in}
 use Rattle.part_stores.specs.Stores.{seen}
 use Rattle.word_eqs.specs.declared.term.TermId.{TermId}
